@@ -1,5 +1,5 @@
 -- What the first turn of an attach comes to, among the other clients' calls.
-use Rattle.schedule.proofs.Words.{◌≡◌, ℕ, ◌+◌, ◌-◌, List, length, Some, None, refl, sym, ◌∙◌, ap, subst, arith, slice_get, slice_get_within, none_read, Answer, Map, map_of, ScriptCall, Script, calls_of, AttachRun, More, Busy, Done, BeginsAttach, BeginsAttachSo, attach_commit, Core, at_disk, AreCallsOf, Stands, attaching_calls, attaching_stands, turn_still, Client, UnderWay, calls_under_way, setting_now, Station, LeavesBegun, TakesTurn, Comes}
+use Rattle.schedule.proofs.Words.{◌≡◌, ℕ, ◌+◌, ◌-◌, List, length, Some, None, refl, sym, ◌∙◌, ap, subst, arith, slice_get, slice_get_within, none_read, Answer, map_of, ScriptCall, Script, calls_of, AttachRun, More, Busy, Done, BeginsAttach, BeginsAttachSo, attach_commit, Core, at_disk, AreCallsOf, Stands, attaching_calls, attaching_stands, turn_still, Client, UnderWay, calls_under_way, setting_now, Station, LeavesBegun, TakesTurn, Comes}
 use Rattle.core_state.specs.declared.answer.Kind.TheVariants as kind
 use Rattle.schedule.specs.declared.client.Work.TheVariants as work
 use Rattle.schedule.proofs.Answered.{answered, answered_idle}
@@ -8,9 +8,10 @@ use Rattle.schedule.proofs.Fitting.{attach_fits}
 use Rattle.schedule.proofs.Going.{attach_begins as going_begins}
 use Rattle.schedule.proofs.LeavesPool.{holds_left}
 use Rattle.schedule.proofs.Refusals.{IsRefusal, refusal_answers, refusal_map, refusal_right, refused_cause, refused_caused, refused_is, refused_tells}
-use Rattle.schedule.proofs.RunsGoOn.{attach_begins as runs_begins}
-use Rattle.schedule.proofs.Theirs.{calls_stay, none_some, same_attach}
-use Rattle.schedule.proofs.TurnComes.{RunsOn, comes_at_once, comes_nowhere, comes_on, first_entry}
+use Rattle.schedule.proofs.RunsGoOn.{begins as runs_begins}
+use Rattle.schedule.proofs.Theirs.{none_there, calls_stay, none_some, same_attach}
+use Rattle.schedule.proofs.Running.{with_same}
+use Rattle.schedule.proofs.TurnComes.{RunsOn, comes_nowhere, comes_on, comes_refused}
 
 module _ {script : Script} {actor : ℕ} {before after : Station} {clients news : List Client} {call : ScriptCall}
     (takes : TakesTurn script actor before after clients news) (asked : call.kind ≡ kind.Attach)
@@ -56,11 +57,11 @@ module _ {script : Script} {actor : ℕ} {before after : Station} {clients news 
 
       on : RunsOn script before after clients news before.items
       on world past handed within listed runs =
-          let map : Map = map_of world.handed world.opening before.items in
-          runs_begins after.state takes.was takes.changes runs run idle disk leaves.1 no_commit
-          (search (none_read, arith))
-          (rw same_calls (subst (Stands (setting_now runs) runs.last runs.begun map runs.contents
-          (calls_under_way clients) runs.commit)
+          runs_begins after.state takes.was takes.changes runs (runs.contents actor) (work.Attach run)
+          (λ its its_is. rw (← same_attach its_is) (search (none_read, arith))) idle disk leaves.1
+          (none_there no_commit) (λ asked is. tt)
+          (rw (with_same runs.contents actor, same_calls) (subst (Stands (setting_now runs) runs.last runs.begun
+          (map_of world.handed world.opening before.items) runs.contents (calls_under_way clients) runs.commit)
           (λ i. at_disk (sym begins.rest i) (sym disk i))
           (attaching_stands old (Some actor) before.state.disk takes.is runs.stands)))
 
@@ -73,19 +74,11 @@ module _ {script : Script} {actor : ℕ} {before after : Station} {clients news 
   pub attach_at_once : (given : Answer) → BeginsAttach old now before.state.disk.devices actor (Done given)
       → LeavesBegun actor call before after (Done given) → Comes script actor before after clients news
   attach_at_once given refused leaves =
-      comes_at_once takes call idle (holds_left refused.1) disk next leaves
+      comes_refused takes idle (holds_left refused.1) disk next refused.1 leaves
       (search (attach_fits, refusal_answers, refusal, refused_tells, refused_cause, arith)) (search (refusal, arith))
-      (search arith)
-      (λ world past runs.
-      let map : Map = map_of world.handed world.opening before.items in
-      let entry = first_entry call actor before given in (
-        refusal_right asked refusal (refused_caused old before.state.disk.devices after.state.disk given
-            runs.recorded.latest (search arith) (search arith) refused.0),
-        rw (refusal_map world.handed map entry given refusal)
-            (subst (Stands (setting_now runs) runs.last runs.begun map runs.contents
-            (calls_under_way clients) runs.commit)
-            (λ i. at_disk (sym refused.1 i) (sym disk i)) runs.stands),
-      ))
+      (λ handed map entry. refusal_map handed map entry given refusal)
+      (λ world past runs. refusal_right asked refusal (refused_caused old before.state.disk.devices after.state.disk
+      given runs.recorded.latest (search arith) (search arith) refused.0))
     where
       refusal : IsRefusal given
       refusal = search refused_is

@@ -1,19 +1,17 @@
 -- What a turn of an attach comes to in which its commit is cut short, among the other clients' calls.
-use Rattle.schedule.proofs.Words.{◌≡◌, ℕ, ◌-◌, List, Some, None, refl, sym, subst, slice_get, CommitRun, Answer, map_of, ScriptCall, Script, calls_of, AttachRun, Done, IsTooMany, StopsAttach, attach_commit, Core, at_disk, HasTooManyOut, AreCallsOf, HoldingCall, Stands, attaching_calls, attaching_stands, look_stands, since_read, Client, UnderWay, Comes, TakesTurn, calls_under_way, setting_now, LeavesGoing, Station, WorkGoesOn}
+use Rattle.schedule.proofs.Words.{◌≡◌, ap, held_under, ℕ, ◌-◌, List, Some, None, refl, sym, subst, slice_get, CommitRun, Answer, ScriptCall, Script, calls_of, AttachRun, Done, IsTooMany, StopsAttach, attach_commit, Core, at_disk, HasTooManyOut, AreCallsOf, attaching_calls, attaching_stands, look_stands, since_read, Client, UnderWay, Comes, TakesTurn, calls_under_way, setting_now, LeavesGoing, Station, WorkGoesOn}
 use Rattle.core_state.specs.declared.answer.Answer.TheVariants as answer
 use Rattle.core_state.specs.declared.answer.Kind.TheVariants as kind
 use Rattle.core_turns.proofs.CommitStands.{commit_is_cut as cut_stands}
 use Rattle.schedule.specs.declared.client.Work.TheVariants as work
-use Rattle.schedule.proofs.AttachCommits.{alone, for_call, its_group, its_recorded, its_stands, only, same_calls}
+use Rattle.schedule.proofs.AttachCommits.{its_group}
 use Rattle.schedule.proofs.AttachReads.{looked}
-use Rattle.schedule.proofs.Coming.{goes_for_attach}
 use Rattle.schedule.proofs.Fitting.{attach_fits}
 use Rattle.schedule.proofs.Going.{attach_ends as going_ends}
-use Rattle.schedule.proofs.Recording.{recorded_goes, recorded_whole}
+use Rattle.schedule.proofs.Recording.{recorded_goes}
 use Rattle.schedule.proofs.Refusals.{refusal_right}
 use Rattle.schedule.proofs.RunsEnd.{commit_is_cut}
-use Rattle.schedule.proofs.Syncs.{begun_parity}
-use Rattle.schedule.proofs.TurnComes.{comes_answered, its_number, its_place}
+use Rattle.schedule.proofs.TurnComes.{GoesFrom, alone, attach_calls, attach_on, comes_last, idle_now, its_asked, its_stands, only, whole_recorded}
 
 module _ {script : Script} {actor : ℕ} {before after : Station} {clients news : List Client} {call : ScriptCall}
     (takes : TakesTurn script actor before after clients news) {under : UnderWay} {run : AttachRun} {commit : CommitRun}
@@ -28,46 +26,40 @@ module _ {script : Script} {actor : ℕ} {before after : Station} {clients news 
   abbrev now : Core
   now = after.state.core
 
+  abbrev from : GoesFrom script actor before after clients news call under (work.Attach run)
+  from = record { takes = takes; does_is = does_is; under_is = under_is; is = is }
+
   -- Too many devices are out.
   cut : (out : ℕ) → HasTooManyOut old → out ≡ old.pool.out
       → LeavesGoing actor call before after under (Done (answer.TooManyFailed out))
       → Comes script actor before after clients news
-  cut out many out_is leaves = comes_answered takes under.at (search its_number)
-      (its_place takes call under (work.Attach run) does_is under_is is)
-      (goes_for_attach actor (before.client.begun - 1) is asked.0 goes) leaves.0 leaves.1
-      (attach_fits asked.0 tt (λ listed told. (many, cc))
-      (λ reached told. cc) tt)
-      (λ full. cc) (going_ends takes.was takes.changes takes.schedule.going are
-      (alone takes makes does_is under_is is goes) (cc) idle_now (only takes makes does_is under_is is goes)
-      (λ its committing. subst HasTooManyOut (sym stops.core) many))
+  cut out many out_is leaves = comes_last from (answer.TooManyFailed out) leaves (attach_on from goes) leaves.0
+      (attach_fits asked.0 tt (λ listed told. (many, cc)) (λ reached told. cc) tt)
+      (λ full. cc) (going_ends takes.was takes.changes takes.schedule.going are (alone from) (cc) idle
+      (only from makes) (λ its committing. subst HasTooManyOut (sym stops.core) many))
       (λ world past of_world within listed was.
       let runs = looked after.state.disk takes.schedule.going takes.is takes.still_lawful stops.unchanged was in
-      let stands = its_stands takes makes does_is under_is is goes was in
       let stood = cut_stands many (look_stands before.state (at_disk old after.state.disk) takes.is refl stops.unchanged
-      takes.still_lawful stands) in
-      let whole = recorded_goes (recorded_whole (its_group takes makes does_is under_is is goes was) (λ awaits. awaits)
-      (begun_parity stands) commit.stage
-      (its_recorded takes makes does_is under_is is goes was)) stops.unchanged.goes_on.later
+      takes.still_lawful (its_stands from makes was)) in
+      let whole = recorded_goes (whole_recorded from makes was (its_group from makes was) (λ awaits. awaits))
+      stops.unchanged.goes_on.later
       (λ groups time row. since_read (setting_now was) groups time before.state.disk after.state.disk stops.unchanged)
       in
-      commit_is_cut after.state takes.was takes.changes runs None whole refl idle_now refl stood.groups.knows
-      (refusal_right asked.0 tt tt) tt listed refl (only takes makes does_is under_is is goes)
-      (subst (λ (l : List HoldingCall). Stands (setting_now was) was.last was.begun
-      (map_of world.handed world.opening before.items) was.contents l None after.state) (sym same)
-      (rw stops.core (attaching_stands old None after.state.disk takes.is stood))))
+      commit_is_cut after.state takes.was takes.changes runs None whole refl idle refl
+      (refusal_right asked.0 tt tt) tt listed refl (only from makes)
+      (rw same (rw stops.core (attaching_stands old None after.state.disk takes.is stood))))
     where
       asked : (call.kind ≡ kind.Attach) × (call.id ≡ None)
-      asked = for_call takes makes does_is under_is is goes
+      asked = its_asked from
 
-      idle_now : after.client.under_way ≡ None
-      idle_now = cc
+      idle : after.client.under_way ≡ None
+      idle = idle_now from (answer.TooManyFailed out) leaves
 
       same : calls_under_way news ≡ calls_under_way clients
-      same = search (same_calls, idle_now)
+      same = attach_calls from (ap held_under idle)
 
       are : AreCallsOf now (calls_under_way news)
-      are = subst (AreCallsOf now) (sym same)
-          (rw stops.core (attaching_calls old None (calls_under_way clients) takes.schedule.going.are))
+      are = rw (same, stops.core) (attaching_calls old None (calls_under_way clients) takes.schedule.going.are)
 
   pub attach_cut : (given : Answer) → IsTooMany old given → LeavesGoing actor call before after under (Done given)
       → Comes script actor before after clients news

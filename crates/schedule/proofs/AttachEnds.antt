@@ -1,26 +1,22 @@
 -- What the last turn of an attach comes to that answers its group, among the other clients' calls.
-use Rattle.schedule.proofs.Words.{◌≡◌, inl, inr, ℕ, ◌+◌, ◌-◌, ◌≤◌, List, [], ◌∷◌, ◌++◌, length, Option, Some, None, refl, sym, ◌∙◌, ap, subst, arith, append_assoc, slice_get, IsWithin, Uber, CommitRun, Answer, Entry, Item, Group, Knows, IsAttachOf, IsWidthStep, Kept, Map, map_of, AwaitsAttach, item_of, World, last_there, width_step_where, WhyDropped, ScriptCall, Script, calls_of, Signs, Done, EndsAttach, IsAttachRunOf, IsMadeAt, attach_answer, Core, IsCore, AreCallsOf, Stands, attach_ends_stands, attaching_calls, commit_ends_calls, few_out, Client, UnderWay, Comes, TakesTurn, GoesOnFor, HasDropCause, IsDeviceCause, Past, IsBegunAt, IsRightNext, IsClient, Runs, calls_under_way, setting_now, LeavesGoing, Station, WorkGoesOn, entry_for, group_for, IsListedWith, turns_of}
+use Rattle.schedule.proofs.Words.{◌≡◌, Turns, held_under, inl, inr, ℕ, ◌+◌, ◌-◌, List, [], ◌∷◌, ◌++◌, length, Option, Some, None, refl, sym, ◌∙◌, ap, subst, arith, append_assoc, slice_get, IsWithin, Uber, CommitRun, Answer, Entry, Item, Group, IsAttachOf, IsWidthStep, Kept, Map, map_of, AwaitsAttach, item_of, World, last_there, width_step_where, WhyDropped, ScriptCall, Script, calls_of, Signs, Done, EndsAttach, IsAttachRunOf, IsMadeAt, attach_answer, Core, IsCore, AreCallsOf, Stands, attach_ends_stands, attaching_calls, commit_ends_calls, few_out, Client, UnderWay, Comes, TakesTurn, HasDropCause, IsDeviceCause, Past, IsBegunAt, IsRightNext, IsClient, Runs, calls_under_way, setting_now, LeavesGoing, Station, WorkGoesOn, group_for, IsListedWith, turns_of}
 use Rattle.core_state.specs.declared.answer.Answer.TheVariants as answer
 use Rattle.core_state.specs.declared.answer.Kind.TheVariants as kind
 use Rattle.core_state.specs.declared.item.Group.{Group as GroupItem}
 use Rattle.core_state.specs.declared.item.Item.TheVariants.{Call as CallItem}
 use Rattle.schedule.specs.declared.client.Work.TheVariants as work
-use Rattle.schedule.proofs.Answered.{answered, answers_call, answers_group}
+use Rattle.schedule.proofs.Answered.{answers_group}
 use Rattle.schedule.proofs.AttachAnswers.{IsAttachEnd, attach_ended, end_answers, end_cause, end_caused, end_map, end_refusal}
-use Rattle.schedule.proofs.AttachCommits.{alone, for_call, its_group, its_recorded, its_stands, of_core, only, same_calls}
+use Rattle.schedule.proofs.AttachCommits.{its_group}
 use Rattle.schedule.proofs.AttachUses.{answered_by}
-use Rattle.schedule.proofs.Coming.{goes_for_attach}
 use Rattle.schedule.proofs.Fitting.{attach_fits, fit_both}
 use Rattle.schedule.proofs.Fulls.{full_synced}
 use Rattle.schedule.proofs.Going.{attach_ends as going_ends}
-use Rattle.schedule.proofs.Recording.{recorded_whole}
 use Rattle.schedule.proofs.Refusals.{refusal_right}
 use Rattle.schedule.proofs.RightNext.{attached_right}
 use Rattle.schedule.proofs.Running.{head_is}
 use Rattle.schedule.proofs.RunsEnd.{commit_ends}
-use Rattle.schedule.proofs.Syncs.{begun_parity}
-use Rattle.schedule.proofs.Theirs.{no_one}
-use Rattle.schedule.proofs.TurnComes.{came_listed, its_going, its_number, its_place, there_still}
+use Rattle.schedule.proofs.TurnComes.{GoesFrom, alone, attach_calls, attach_on, comes, idle_now, its_answered, its_asked, its_attach, its_going, its_stands, last_entry, only, whole_recorded}
 use Rattle.schedule.proofs.UsingWorks.{group_listed}
 
 -- A group of the width before it has its widths, or ends an expansion, and needs no attach for that.
@@ -44,19 +40,22 @@ module _ {script : Script} {actor : ℕ} {before after : Station} {clients news 
   abbrev now : Core
   now = after.state.core
 
+  abbrev from : GoesFrom script actor before after clients news call under (work.Attach (Signs run because))
+  from = record { takes = takes; does_is = does_is; under_is = under_is; is = is }
+
   -- the attach is the core's,
   of : IsAttachRunOf old (Signs run because)
-  of = (of_core takes refl does_is under_is is goes).1.0
+  of = (its_attach from).0
 
   -- and what the script asks for.
   asked : (call.kind ≡ kind.Attach) × (call.id ≡ None)
-  asked = for_call takes refl does_is under_is is goes
+  asked = its_asked from
 
   ended : IsAttachEnd given
   ended = search (attach_ended, arith)
 
   abbrev entry : Entry
-  entry = entry_for call actor before.client.begun under.at given
+  entry = last_entry from given leaves
 
   abbrev group : GroupItem
   group = group_for now under.at old.begun
@@ -71,11 +70,11 @@ module _ {script : Script} {actor : ℕ} {before after : Station} {clients news 
   listed : after.items ≡ with_both
   listed = search (group_listed, answered_by, arith)
 
-  idle_now : after.client.under_way ≡ None
-  idle_now = cc
+  idle : after.client.under_way ≡ None
+  idle = idle_now from given leaves
 
   same : calls_under_way news ≡ calls_under_way clients
-  same = same_calls takes refl does_is under_is is goes (cc)
+  same = attach_calls from (ap held_under idle)
 
   disk : after.state.disk ≡ before.state.disk
   disk = search arith
@@ -97,7 +96,7 @@ module _ {script : Script} {actor : ℕ} {before after : Station} {clients news 
 
     stands : Stands (setting_now runs) runs.last runs.begun map runs.contents (calls_under_way clients) (Some run)
         before.state
-    stands = search its_stands
+    stands = its_stands from refl runs
 
     abbrev next : Kept
     next = stands.groups.next
@@ -135,11 +134,11 @@ module _ {script : Script} {actor : ℕ} {before after : Station} {clients news 
     -- The group was begun where an attach was to be answered.
     begun_is : IsBegunAt world before.items runs.item under.at Awaited next
     begun_is =
-        let begun = its_group takes refl does_is under_is is goes runs in
+        let begun = its_group from refl runs in
         rw (← head_is (sym begun.1 ∙ stands.groups.begun_is)) begun.2
 
     its : IsClient world script before.items runs.item runs.begun (runs.contents actor) actor before.client under
-    its = runs.each actor before.client under (search its_going)
+    its = runs.each actor before.client under (its_going from)
 
     -- Where the answer tells of a wider pool it names the group, and else the group has the widths before it.
     closes : (why : Option WhyDropped) → IsMadeAt old.pool.uber.reflow why run.uber.reflow
@@ -169,7 +168,7 @@ module _ {script : Script} {actor : ℕ} {before after : Station} {clients news 
         → Runs world script past after.state with_both news
     ends_with with =
         let closed = closes because of.1 ends.given_is in
-        commit_ends after.state takes.was takes.changes runs under refl idle_now (
+        commit_ends after.state takes.was takes.changes runs under (
           next,
           stands.groups.begun_is,
           record {
@@ -178,49 +177,25 @@ module _ {script : Script} {actor : ℕ} {before after : Station} {clients news 
             map = begun_is.map;
             widths = closed.0 begun_is.widths;
           },
-        ) (recorded_whole (its_group takes refl does_is under_is is goes runs)
-        (λ awaits. awaits) (begun_parity stands) run.stage (its_recorded takes refl does_is under_is is goes runs))
-        stands.groups.begun_is (only takes refl does_is under_is is goes) disk (search (number_is, reflow_is))
-        (λ told. told) closed.1 (rw asked.0 (end_answers given ended))
-        (end_map world.handed entry given ended) (subst (Knows (setting_now runs) next []) disk stood.groups.knows) with
-        (rw same stood)
+        ) (whole_recorded from refl runs (its_group from refl runs) (λ awaits. awaits)) stands.groups.begun_is
+        (only from refl) disk (search (number_is, reflow_is)) (rw same stood) refl idle (λ told. told) closed.1
+        (rw asked.0 (end_answers given ended)) (end_map world.handed entry given ended) with
 
   -- ---- what it comes to
 
-  on : GoesOnFor script before.state after.state
-  on = goes_for_attach actor (before.client.begun - 1) is asked.0 goes
+  abbrev was : Turns
+  was = turns_of before.state before.items clients
 
-  its_next : before.client.begun ≡ answered before.client + 1
-  its_next = search its_number
-
-  both : with_both ≡ before.items ++ Group group ∷ CallItem entry ∷ []
-  both = search append_assoc
-
-  abbrev dropped : WhyDropped → Type 0
-  dropped = HasDropCause (turns_of before.state before.items clients) (turns_of after.state after.items news)
-
-  few : after.client.begun ≤ length (calls_of script actor)
-  few = search arith
+  abbrev left : Turns
+  left = turns_of after.state after.items news
 
   pub attach_ends : Comes script actor before after clients news
-  attach_ends = record {
-    come = came_listed takes (Group group ∷ CallItem entry ∷ []) on (listed ∙ both)
-        (fit_both (turns_of before.state before.items clients) (turns_of after.state after.items news) entry
-        (attach_fits asked.0 (end_answers given ended) (search (ended, arith)) (search (ended, arith))
-        (subst (IsDeviceCause before.state.disk.devices dropped) (sym ends.given_is)
-        (end_cause before.state.disk.devices dropped because now.pool.uber.reflow.to old.begun
-        (search (its_going, arith))))) goes.0.out.still group listed) (search (both, ends_with, few_out, arith))
-        (full_synced script (turns_of before.state before.items clients) (turns_of after.state after.items news) group
-        entry listed (λ full. subst IsAttachEnd full ended));
-    schedule = record {
-      going = going_ends takes.was takes.changes takes.schedule.going are (alone takes refl does_is under_is is goes)
-          (cc) idle_now (only takes refl does_is under_is is goes)
-          (λ its is_committing. cc);
-      answered = rw listed (answers_call takes.changes takes.was few
-          (no_one (λ its_under. 1 ≤ after.client.begun) idle_now) (answers_group group takes.schedule.answered) entry
-          (ap answered leaves.1 ∙ its_next)
-          (its_place takes call under (work.Attach (Signs run because)) does_is under_is is) refl its_next refl refl);
-      bank = goes.1 takes.schedule.bank;
-      there = there_still takes on;
-    };
-  }
+  attach_ends = comes takes (Group group ∷ CallItem entry ∷ []) (search append_assoc) (attach_on from goes) listed
+      (fit_both was left entry
+      (attach_fits asked.0 (end_answers given ended) (search (ended, arith)) (search (ended, arith))
+      (subst (IsDeviceCause before.state.disk.devices (HasDropCause was left)) (sym ends.given_is)
+      (end_cause before.state.disk.devices (HasDropCause was left) because now.pool.uber.reflow.to old.begun
+      (search (its_going, arith))))) goes.0.out.still group listed) (search (ends_with, few_out, arith))
+      (full_synced script was left group entry listed (λ full. subst IsAttachEnd full ended))
+      (going_ends takes.was takes.changes takes.schedule.going are (alone from) (cc) idle (only from refl)
+      (λ its is_committing. cc)) (its_answered from given leaves (answers_group group takes.schedule.answered))

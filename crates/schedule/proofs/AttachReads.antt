@@ -1,24 +1,22 @@
 -- What the turns of an attach come to that make no commit, among the other clients' calls: the reads of the new device,
 -- and an attach that ends with them.
-use Rattle.schedule.proofs.Words.{◌≡◌, ◌≢◌, inl, ℕ, ◌-◌, List, [], ◌∷◌, ◌++◌, Some, None, refl, sym, ◌∙◌, ap, subst, slice_get, Disk, Lawful, Unchanged, later_refl, Uber, max_group, ReadsSlot, RingRead, one_more_read, IsOnInUse, read_touches, unchanged_none, Answer, Entry, Item, IsAnswerOf, Map, PutBytes, map_after_answer, map_of, World, WhyDropped, ScriptCall, Script, calls_of, AttachRun, Reads, Checked, Joins, Signs, More, Done, AttachGoesOn, FindsFree, HoldsAttach, IsAttachRunOf, IsDeviceRefused, ReadsNext, StopsAttach, WaitsForCommit, attach_commit, IsSyncRefused, Core, CoreState, HasBankOf, IsCore, at_disk, HasTooManyOut, AreCallsOf, Stands, attach_beside, attaching_calls, attaching_stands, look_stands, attaching_commit, rests, since_read, Client, UnderWay, Comes, TakesTurn, GoesOnFor, HasDropCause, IsDeviceCause, IsGroupKind, Past, IsRightNext, AreGoing, IsGoing, Runs, call_of_client, calls_under_way, commit_in, held_under, setting_now, turns_of, made_by, LeavesGoing, Station, WorkGoesOn, entry_for}
+use Rattle.schedule.proofs.Words.{◌≡◌, MakesCommit, ◌≢◌, inl, ℕ, ◌-◌, List, Some, None, refl, sym, ◌∙◌, ap, subst, slice_get, Disk, Lawful, Unchanged, later_refl, Uber, max_group, ReadsSlot, RingRead, one_more_read, IsOnInUse, read_touches, unchanged_none, Answer, Entry, Item, IsAnswerOf, Map, PutBytes, map_after_answer, map_of, World, WhyDropped, ScriptCall, Script, calls_of, AttachRun, Reads, Checked, Signs, More, Done, AttachGoesOn, FindsFree, HoldsAttach, IsAttachRunOf, IsDeviceRefused, ReadsNext, StopsAttach, WaitsForCommit, attach_commit, IsSyncRefused, Core, CoreState, HasBankOf, IsCore, at_disk, HasTooManyOut, AreCallsOf, Stands, attaching_calls, attaching_stands, look_stands, attaching_commit, rests, since_read, Client, UnderWay, Comes, TakesTurn, HasDropCause, IsDeviceCause, IsGroupKind, Past, IsRightNext, AreGoing, Runs, calls_under_way, commit_in, held_under, setting_now, turns_of, made_by, LeavesGoing, Station, WorkGoesOn, entry_for}
 use Rattle.core_state.specs.declared.answer.Answer.TheVariants as answer
 use Rattle.core_state.specs.declared.answer.Kind.TheVariants as kind
-use Rattle.core_state.specs.declared.item.Item.TheVariants.{Call as CallItem}
 use Rattle.schedule.specs.declared.client.Work.TheVariants as work
 use Rattle.schedule.proofs.AttachUses.{refused_plain, sync_plain}
-use Rattle.schedule.proofs.Coming.{goes_for_attach}
 use Rattle.schedule.proofs.Fitting.{TellsOut, attach_fits}
-use Rattle.schedule.proofs.Going.{attach_goes as going_goes, attach_stops as going_stops, one_commit}
+use Rattle.schedule.proofs.Going.{attach_goes as going_goes, attach_stops as going_stops}
 use Rattle.schedule.proofs.LeavesPool.{same_keeps}
 use Rattle.schedule.proofs.Recording.{recorded_goes}
 use Rattle.schedule.proofs.Refusals.{IsRefusal, device_cause, device_caused, device_refusal, device_tells, refusal_answers, refusal_map, refusal_right, sync_cause}
 use Rattle.schedule.proofs.RunsEnd.{answers_call as runs_answer}
-use Rattle.schedule.proofs.RunsGoOn.{goes_on as runs_goes_on, its_holds}
-use Rattle.schedule.proofs.Syncs.{its_commit, refused_answers as sync_answers, refused_map as sync_map, refused_right as sync_refused_right, refused_tells as sync_tells, stands_know}
-use Rattle.schedule.proofs.Theirs.{calls_stay, none_there, same_attach, some_is, work_no_commit}
+use Rattle.schedule.proofs.RunsGoOn.{beside, goes_on as runs_goes_on, still_known}
+use Rattle.schedule.proofs.Syncs.{refused_answers as sync_answers, refused_map as sync_map, refused_right as sync_refused_right, refused_tells as sync_tells}
+use Rattle.schedule.proofs.Theirs.{none_there, same_attach, work_no_commit}
 use Rattle.schedule.proofs.UsingEnds.{EndsPlainly}
 use Rattle.schedule.proofs.UsingWorks.{plain_listed}
-use Rattle.schedule.proofs.TurnComes.{comes_answered, comes_further, its_asked, its_going, its_number, its_place, its_work}
+use Rattle.schedule.proofs.TurnComes.{GoesFrom, attach_calls, attach_on, comes_further, comes_last, idle_now, its_asked, its_attach, its_known, last_entry}
 
 -- A device was read: all stands that stood.
 abbrev pub looked : {world : World} {script : Script} {past : Past} {before : CoreState} {items : List Item}
@@ -37,59 +35,29 @@ looked {before = before} after going is lawful unchanged runs = record {
   stands = look_stands before (at_disk before.core after) is refl unchanged lawful runs.stands;
   theirs = runs.theirs;
   each = runs.each;
-  attaches = λ other its under run is does. attach_beside before after run
-      ((going.each other its under is).attach run does).0
-      (λ join is_join.
-      let makes : commit_in under.work ≡ Some join.run = ap commit_in does ∙ ap attach_commit is_join in
-      its_commit runs.commit is makes (one_commit going is makes) runs.theirs)
-      (read_touches (IsOnInUse before.core.reach before.core.pool.out) unchanged) runs.stands
-      (runs.attaches other its under run is does);
+  attaches = beside after runs going
+      (read_touches (IsOnInUse before.core.reach before.core.pool.out) unchanged);
 }
 
 -- One that makes no commit made no group.
 made_none : (run : AttachRun) → attach_commit run ≡ None → made_by (work.Attach run) ≡ None
-made_none (Reads ring) none = refl
-made_none (Checked ring) none = refl
-made_none (Joins join) none = refl
 made_none (Signs commit because) none = cc
+made_none other none = refl
 
 module _ {script : Script} {actor : ℕ} {before after : Station} {clients news : List Client} {call : ScriptCall}
-    (takes : TakesTurn script actor before after clients news) {under : UnderWay} {run : AttachRun}
-    (does_is : under.work ≡ work.Attach run) (under_is : before.client.under_way ≡ Some under)
-    (is : slice_get (calls_of script actor) (before.client.begun - 1) ≡ Some call)
+    {under : UnderWay} {run : AttachRun}
+    (from : GoesFrom script actor before after clients news call under (work.Attach run))
     (goes : WorkGoesOn (work.Attach run) before.state after.state) (none : attach_commit run ≡ None) where
+  open from use {takes, does_is, under_is, is}
+
   abbrev old : Core
   old = before.state.core
 
   abbrev now : Core
   now = after.state.core
 
-  abbrev ItComes : Type 0
-  ItComes = Comes script actor before after clients news
-
-  -- It is what the script asks for,
-  for_call : (call.kind ≡ kind.Attach) × (call.id ≡ None)
-  for_call = its_asked takes call under (work.Attach run) does_is under_is is
-
-  -- and the one under way.
-  of_core : IsAttachRunOf old run × (old.attaching ≡ Some actor)
-  of_core = (its_work takes call under (work.Attach run) does_is under_is is).attach run refl
-
-  on : GoesOnFor script before.state after.state
-  on = goes_for_attach actor (before.client.begun - 1) is for_call.0 goes
-
-  no_commit : commit_in under.work ≡ None
-  no_commit = cc
-
-  -- Another's is none.
-  alone : (other : ℕ) (its : Client) (its_under : UnderWay) (its_run : AttachRun) → other ≢ actor
-      → IsGoing clients other its its_under → its_under.work ≡ work.Attach its_run → ⊥
-  alone other its its_under its_run apart going attach = apart
-      (some_is (sym ((takes.schedule.going.each other its its_under going).attach its_run attach).1 ∙ of_core.1))
-
-  -- The calls that hold sectors are the same.
-  same_calls : call_of_client after.client ≡ [] → calls_under_way news ≡ calls_under_way clients
-  same_calls = calls_stay takes.was takes.changes (cc)
+  no_commit : MakesCommit under.work → ⊥
+  no_commit = none_there (ap commit_in does_is ∙ none)
 
   -- It goes on, and makes no commit yet.
   pub attach_looks : (next : AttachRun) → now ≡ old → Unchanged before.state.disk after.state.disk
@@ -97,31 +65,28 @@ module _ {script : Script} {actor : ℕ} {before after : Station} {clients news 
       → ((world : World) (past : Past) (runs : Runs world script past
       (at_disk old after.state.disk) before.items clients)
       → HoldsAttach (setting_now runs) runs.last runs.begun after.state.disk next)
-      → LeavesGoing actor call before after under (More (work.Attach next)) → ItComes
-  attach_looks next core unchanged next_early of holds further = comes_further takes call under
-      (work.Attach run) does_is under_is is (work.Attach next) on further refl
+      → LeavesGoing actor call before after under (More (work.Attach next))
+      → Comes script actor before after clients news
+  attach_looks next core unchanged next_early of holds further = comes_further from (work.Attach next)
+      (attach_on from goes) further refl
       (going_goes takes.was takes.changes takes.schedule.going are (same_keeps old core)
-      (work_no_commit under_is (λ makes. none_there no_commit makes)) next next_is refl
-      (ap (λ (c : Core). c.attaching) core ∙ of_core.1) (record {
+      (work_no_commit under_is no_commit) next next_is refl attaching (record {
         hold = tt;
         call = call;
         there = cc;
-        asked = for_call;
+        asked = its_asked from;
         commit = λ commit its. cc;
-        attach = λ its its_is. (
-          rw (← same_attach its_is) of,
-          ap (λ (c : Core). c.attaching) core ∙ of_core.1,
-        );
+        attach = λ its its_is. (rw (← same_attach its_is) of, attaching);
       }))
       (λ world past handed within listed was.
       let runs = looked after.state.disk takes.schedule.going takes.is takes.still_lawful unchanged was in
-      runs_goes_on after.state takes.was takes.changes runs under (search (its_holds, next_is))
-      (λ other its its_under its_run apart going attach. search alone)
-      (later_refl after.state.disk) (λ groups time row kept. kept) under_is client_is
-      (λ makes. none_there no_commit makes) (λ makes. none_there next_early makes) (λ asked asked_is. tt)
+      runs_goes_on after.state takes.was takes.changes runs under
+      (λ its its_is. rw (← same_attach its_is) (holds world past runs)) (search still_known)
+      (later_refl after.state.disk) (λ groups time row kept. kept) under_is client_is no_commit
+      (λ makes. none_there next_early makes) (λ asked asked_is. tt)
       (subst (λ (s : CoreState). Stands (setting_now runs) runs.last runs.begun
       (map_of world.handed world.opening before.items) runs.contents (calls_under_way news) runs.commit s)
-      (λ i. at_disk (sym core i) after.state.disk) (search (same_calls, next_is))))
+      (λ i. at_disk (sym core i) after.state.disk) (rw same runs.stands)))
     where
       client_is : after.client
           ≡ record { begun = before.client.begun; under_way = Some (record { at = under.at; work = work.Attach next }) }
@@ -130,8 +95,14 @@ module _ {script : Script} {actor : ℕ} {before after : Station} {clients news 
       next_is : after.client.under_way ≡ Some (record { at = under.at; work = work.Attach next })
       next_is = cc
 
+      attaching : now.attaching ≡ Some actor
+      attaching = ap (λ (c : Core). c.attaching) core ∙ (its_attach from).1
+
+      same : calls_under_way news ≡ calls_under_way clients
+      same = attach_calls from (ap held_under next_is)
+
       are : AreCallsOf now (calls_under_way news)
-      are = rw core (subst (AreCallsOf old) (sym (same_calls (ap held_under next_is))) takes.schedule.going.are)
+      are = rw (core, same) takes.schedule.going.are
 
   -- what an answer is with which it ends before its commit
   pub record EndsEarly (given : Answer) : Type 0 where
@@ -147,49 +118,40 @@ module _ {script : Script} {actor : ℕ} {before after : Station} {clients news 
 
   -- It ends, and no device is attached.
   pub attach_stops : (given : Answer) → EndsEarly given → StopsAttach before.state after.state
-      → EndsPlainly given None → LeavesGoing actor call before after under (Done given) → ItComes
-  attach_stops given early stops plain leaves = comes_answered takes under.at (search its_number)
-      (its_place takes call under (work.Attach run) does_is under_is is) on listed leaves.1
-      (attach_fits for_call.0 early.answers early.tells early.limit early.cause)
-      (λ full. absurd (early.no_full full)) (going_stops takes.was takes.changes takes.schedule.going are of_core.1 (cc)
-      (cc)
+      → EndsPlainly given None → LeavesGoing actor call before after under (Done given)
+      → Comes script actor before after clients news
+  attach_stops given early stops plain leaves = comes_last from given leaves (attach_on from goes)
+      (leaves.0 ∙ plain_listed now before.items under.at entry
+      (rw (← ap made_by does_is ∙ made_none run none) at plain))
+      (attach_fits (its_asked from).0 early.answers early.tells early.limit early.cause) early.no_full
+      (going_stops takes.was takes.changes takes.schedule.going are (its_attach from).1 (cc) (cc)
       (λ commit of. rw stops.core (attaching_commit old None of))
-      (λ many. subst HasTooManyOut (sym stops.core) many)
-      (work_no_commit under_is (λ makes. none_there no_commit makes)) idle_now)
+      (λ many. subst HasTooManyOut (sym stops.core) many) (work_no_commit under_is no_commit) idle)
       (λ world past handed within with was.
       let runs = looked after.state.disk takes.schedule.going takes.is takes.still_lawful stops.unchanged was in
       let map : Map = map_of world.handed world.opening before.items in
-      runs_answer after.state takes.was takes.changes runs runs.commit runs.recorded refl idle_now refl
-      (stands_know runs.stands) (early.right world past was) answers with runs.theirs
-      (work_no_commit under_is (λ makes. none_there no_commit makes))
-      (subst (λ (m : Map). Stands (setting_now runs) runs.last runs.begun m runs.contents (calls_under_way news)
-      runs.commit after.state) (sym (early.no_block world.handed map entry))
+      runs_answer after.state takes.was takes.changes runs runs.commit runs.recorded refl idle refl
+      (early.right world past was) answers with runs.theirs (work_no_commit under_is no_commit)
+      (rw (early.no_block world.handed map entry)
       (subst (λ (s : CoreState). Stands (setting_now runs) runs.last runs.begun map runs.contents (calls_under_way news)
       runs.commit s)
-      (λ i. at_disk (sym stops.core i) after.state.disk) (search (attaching_stands, same_calls, idle_now)))))
+      (λ i. at_disk (sym stops.core i) after.state.disk)
+      (rw same (attaching_stands old None after.state.disk takes.is runs.stands)))))
     where
       entry : Entry
-      entry = entry_for call actor before.client.begun under.at given
+      entry = last_entry from given leaves
 
       answers : IsAnswerOf call.kind given
-      answers = rw for_call.0 early.answers
+      answers = rw (its_asked from).0 early.answers
 
-      listed : after.items ≡ before.items ++ CallItem entry ∷ []
-      listed = leaves.0 ∙ plain_listed now before.items under.at entry
-          (rw (← ap made_by does_is ∙ made_none run none) at plain)
+      idle : after.client.under_way ≡ None
+      idle = idle_now from given leaves
 
-      idle_now : after.client.under_way ≡ None
-      idle_now = cc
+      same : calls_under_way news ≡ calls_under_way clients
+      same = attach_calls from (ap held_under idle)
 
       are : AreCallsOf now (calls_under_way news)
-      are = subst (AreCallsOf now) (sym (same_calls (ap held_under idle_now)))
-          (rw stops.core (attaching_calls old None (calls_under_way clients) takes.schedule.going.are))
-
-  -- What is known of the ring that was read so far.
-  known_of : {world : World} {past : Past}
-      (runs : Runs world script past (at_disk old after.state.disk) before.items clients)
-      → HoldsAttach (setting_now runs) runs.last runs.begun after.state.disk run
-  known_of runs = runs.attaches actor before.client under run (search its_going) does_is
+      are = rw (same, stops.core) (attaching_calls old None (calls_under_way clients) takes.schedule.going.are)
 
 -- ---- turn by turn
 
@@ -215,36 +177,38 @@ module _ {script : Script} {actor : ℕ} {before after : Station} {clients news 
   abbrev TurnComes : Type 0
   TurnComes = Comes script actor before after clients news
 
+  abbrev from : {run : AttachRun} → under.work ≡ work.Attach run
+      → GoesFrom script actor before after clients news call under (work.Attach run)
+  from does_is = record { takes = takes; does_is = does_is; under_is = under_is; is = is }
+
   -- One more slot of the ring is read,
   pub reads_next : (next : RingRead) → under.work ≡ work.Attach (Reads ring)
       → ReadsNext before.state ring after.state next → IsAttachRunOf after.state.core (Reads next)
       → LeavesGoing actor call before after under (More (work.Attach (Reads next))) → TurnComes
-  reads_next next does_is did of leaves = attach_looks takes does_is under_is is goes refl
-      (Reads next) did.core did.unchanged refl of
-      (λ world past runs. one_more_read after.state.disk ring next (reads_still ring did.unchanged did.reads)
-      (known_of takes does_is under_is is goes refl runs)) leaves
+  reads_next next does_is did of leaves = attach_looks (from does_is) goes refl (Reads next) did.core did.unchanged refl
+      of (λ world past runs. one_more_read after.state.disk ring next (reads_still ring did.unchanged did.reads)
+      (its_known (from does_is) runs)) leaves
 
   -- it is found free,
   pub finds_free : (next : RingRead) → under.work ≡ work.Attach (Reads ring)
       → FindsFree before.state ring after.state next → IsAttachRunOf after.state.core (Checked next)
       → LeavesGoing actor call before after under (More (work.Attach (Checked next))) → TurnComes
-  finds_free next does_is did of leaves = attach_looks takes does_is under_is is goes refl
-      (Checked next) did.core did.unchanged refl of
-      (λ world past runs. rw did.same (known_of takes does_is under_is is goes refl runs)) leaves
+  finds_free next does_is did of leaves = attach_looks (from does_is) goes refl (Checked next) did.core did.unchanged
+      refl of (λ world past runs. rw did.same (its_known (from does_is) runs)) leaves
 
   -- or the attach waits for another's commit.
   pub waits_on : (next : RingRead) → under.work ≡ work.Attach (Checked ring)
       → WaitsForCommit before.state ring after.state next → IsAttachRunOf after.state.core (Checked next)
       → LeavesGoing actor call before after under (More (work.Attach (Checked next))) → TurnComes
-  waits_on next does_is did of leaves = attach_looks takes does_is under_is is goes refl (Checked next) (cc)
+  waits_on next does_is did of leaves = attach_looks (from does_is) goes refl (Checked next) (cc)
       (rw (ap (λ (s : CoreState). s.disk) did.state) (unchanged_none before.state.disk)) refl of
-      (λ world past runs. rw did.same (known_of takes does_is under_is is goes refl runs)) leaves
+      (λ world past runs. rw did.same (its_known (from does_is) runs)) leaves
 
   -- It ends without a device: that one is not to be had,
   pub device_refused : (given : Answer) → under.work ≡ work.Attach (Reads ring)
       → StopsAttach before.state after.state → IsDeviceRefused before.state ring after.state given
       → LeavesGoing actor call before after under (Done given) → TurnComes
-  device_refused given does_is stops refused leaves = attach_stops takes does_is under_is is goes refl given (record {
+  device_refused given does_is stops refused leaves = attach_stops (from does_is) goes refl given (record {
     answers = refusal_answers given refusal;
     tells = device_tells before.state ring after.state given refused;
     limit = λ reached told. absurd (subst IsRefusal told refusal);
@@ -252,12 +216,11 @@ module _ {script : Script} {actor : ℕ} {before after : Station} {clients news 
         (λ device rose. inl rose);
     no_full = λ full. subst IsRefusal full refusal;
     no_block = λ handed map entry. refusal_map handed map entry given refusal;
-    right = λ world past runs. refusal_right
-        (its_asked takes call under (work.Attach (Reads ring)) does_is under_is is).0 refusal
+    right = λ world past runs. refusal_right (its_asked (from does_is)).0 refusal
         (device_caused before.state ring after.state given runs.recorded.latest
-        ((its_work takes call under (work.Attach (Reads ring)) does_is under_is is).attach (Reads ring) refl).0.behind
+        (its_attach (from does_is)).0.behind
         (ap (λ (u : Uber). u.reflow.to) runs.stands.alike ∙ runs.recorded.item_is.widths.1)
-        (known_of takes does_is under_is is goes refl
+        (its_known (from does_is)
         (looked after.state.disk takes.schedule.going takes.is takes.still_lawful stops.unchanged runs)) refused);
   }) stops (search refused_plain) leaves
     where
@@ -268,7 +231,7 @@ module _ {script : Script} {actor : ℕ} {before after : Station} {clients news 
   pub commit_refused : (given : Answer) → under.work ≡ work.Attach (Checked ring)
       → StopsAttach before.state after.state → IsSyncRefused before.state.core given
       → LeavesGoing actor call before after under (Done given) → TurnComes
-  commit_refused given does_is stops refused leaves = attach_stops takes does_is under_is is goes refl given (record {
+  commit_refused given does_is stops refused leaves = attach_stops (from does_is) goes refl given (record {
     answers = search sync_answers;
     tells = sync_tells before.state.core given refused;
     limit = λ reached told. (rw told at refused).2;
@@ -276,8 +239,7 @@ module _ {script : Script} {actor : ℕ} {before after : Station} {clients news 
     no_full = λ full. rw full at refused;
     no_block = λ handed map entry. search (sync_map, entry);
     right = λ world past runs. sync_refused_right world before.state.core given
-        (subst IsGroupKind (sym (its_asked takes call under (work.Attach (Checked ring)) does_is under_is is).0) tt)
-        refl runs.recorded.latest
+        (subst IsGroupKind (sym (its_asked (from does_is)).0) tt) refl runs.recorded.latest
         (λ none. rests before.state.core takes.is none ∙ ap (λ (u : Uber). u.group) runs.stands.alike
         ∙ runs.recorded.item_is.number) refused;
   }) stops (search sync_plain) leaves

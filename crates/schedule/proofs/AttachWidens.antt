@@ -1,18 +1,17 @@
 -- What the turn of an attach comes to in which its device joins the pool, among the other clients' calls.
-use Rattle.schedule.proofs.Words.{◌≡◌, inr, ℕ, ◌+◌, ◌-◌, ◌<◌, List, Some, None, refl, sym, ◌∙◌, ap, subst, arith, slice_get, cases_lt, slice_get-map, Disk, Lays, CommitRun, IsWidenable, widened_kept, Asked, Kept, AwaitsAttach, World, JoinRun, ScriptCall, Script, calls_of, Joins, Signs, More, GoOutAndReach, IsAttachRunOf, StepsJoin, Core, HasBankOf, AreCallsOf, HoldingCall, join_joins_since, join_joins_stands, reaching_on, few_out, calls_beside, Client, UnderWay, answered_of, Comes, TakesTurn, IsWorldOf, Past, IsBegunAt, Runs, calls_under_way, setting_now, HasDeviceUnder, LeavesGoing, Station, WorkGoesOn}
+use Rattle.schedule.proofs.Words.{◌≡◌, held_under, [], ◌∷◌, inr, ℕ, ◌+◌, ◌-◌, ◌<◌, List, Some, None, refl, sym, ◌∙◌, ap, subst, arith, slice_get, cases_lt, slice_get-map, Disk, Lays, CommitRun, IsWidenable, widened_kept, Asked, Kept, AwaitsAttach, World, JoinRun, ScriptCall, Script, calls_of, Joins, Signs, More, GoOutAndReach, IsAttachRunOf, StepsJoin, Core, HasBankOf, AreCallsOf, HoldingCall, join_joins_since, join_joins_stands, reaching_on, few_out, calls_beside, Client, UnderWay, answered_of, Comes, TakesTurn, IsWorldOf, Past, IsBegunAt, Runs, calls_under_way, setting_now, HasDeviceUnder, LeavesGoing, Station, WorkGoesOn}
 use Rattle.core_state.specs.declared.answer.Kind.TheVariants as kind
 use Rattle.join_commit.specs.declared.join_run.JoinStep.TheVariants as step
 use Rattle.core_turns.proofs.Frames.{calls_stay as core_calls}
 use Rattle.schedule.specs.declared.client.Work.TheVariants as work
-use Rattle.schedule.proofs.AttachCommits.{alone, for_call, from_first, its_group, its_known, its_recorded, its_stands, of_core, only, same_calls}
-use Rattle.schedule.proofs.Coming.{goes_for_attach}
+use Rattle.schedule.proofs.AttachCommits.{from_first, its_group}
 use Rattle.schedule.proofs.Going.{attach_commits}
-use Rattle.schedule.proofs.Recording.{recorded_halves}
+use Rattle.schedule.proofs.Recording.{recorded_goes, recorded_halves}
 use Rattle.schedule.proofs.Running.{head_is}
-use Rattle.schedule.proofs.RunsGoOn.{attach_widens}
+use Rattle.schedule.proofs.RunsGoOn.{commit_runs, only_known}
 use Rattle.schedule.proofs.Syncs.{begun_parity}
-use Rattle.schedule.proofs.Theirs.{some_is}
-use Rattle.schedule.proofs.TurnComes.{comes_further}
+use Rattle.schedule.proofs.Theirs.{same_attach, some_is}
+use Rattle.schedule.proofs.TurnComes.{GoesFrom, alone, attach_calls, attach_on, comes_further, its_asked, its_attach, its_commit, its_known, its_recorded, its_stands, only}
 
 asking : ScriptCall → Asked
 asking call = record { kind = call.kind; id = call.id }
@@ -62,11 +61,14 @@ module _ {script : Script} {actor : ℕ} {before after : Station} {clients news 
   abbrev now : Core
   now = after.state.core
 
+  abbrev from : GoesFrom script actor before after clients news call under (work.Attach (Joins join))
+  from = record { takes = takes; does_is = does_is; under_is = under_is; is = is }
+
   attach_of : IsAttachRunOf old (Joins join) × (old.attaching ≡ Some actor)
-  attach_of = (of_core takes refl does_is under_is is goes).1
+  attach_of = its_attach from
 
   asked : (call.kind ≡ kind.Attach) × (call.id ≡ None)
-  asked = for_call takes refl does_is under_is is goes
+  asked = its_asked from
 
   -- The device is there.
   there : old.reach < before.state.disk.devices
@@ -109,29 +111,29 @@ module _ {script : Script} {actor : ℕ} {before after : Station} {clients news 
 
   pub join_joins : LeavesGoing actor call before after under (More (work.Attach (Signs made None)))
       → Comes script actor before after clients news
-  join_joins further = comes_further takes call under (work.Attach (Joins join)) does_is under_is is
-      (work.Attach (Signs made None)) (goes_for_attach actor (before.client.begun - 1) is asked.0 goes) further refl
+  join_joins further = comes_further from (work.Attach (Signs made None)) (attach_on from goes) further refl
       (attach_commits takes.was takes.changes takes.schedule.going
-      (search (same, core_calls, reaching_on, reaching_calls)) (alone takes refl does_is under_is is goes)
-      (only takes refl does_is under_is is goes)
+      (search (same, core_calls, reaching_on, reaching_calls)) (alone from) (only from refl)
       refl of (ap (λ (c : Core). c.attaching) core ∙ attach_of.1) next_is refl tt
       (ap (λ (c : Client). slice_get (calls_of script actor) (c.begun - 1)) further.1 ∙ is) asked of.0.of
-      (ap (λ (c : Core). c.committing) core ∙ (of_core takes refl does_is under_is is goes).0.1))
+      (ap (λ (c : Core). c.committing) core ∙ (its_commit from refl).1))
       (λ world past of_world within listed runs.
       let failed = within (few_out old did.few) in
-      let stands = its_stands takes refl does_is under_is is goes runs in
-      let known = its_known takes refl does_is under_is is goes runs in
-      let group = its_group takes refl does_is under_is is goes runs in
+      let stands = its_stands from refl runs in
+      let known = its_known from runs in
+      let group = its_group from refl runs in
       let next : Kept = stands.groups.next in
       let wider = widens of_world runs next (search arith) (search) in
       let bank = reaching_bank old takes.schedule.bank there in
-      attach_widens after.state takes.was takes.changes runs under made goes.0.later
-      (recorded_halves (widened_kept next, refl, wider) (λ awaits. awaits)
+      let reach = runs.reach + 1 in
+      commit_runs after.state takes.was takes.changes runs reach made
+      (recorded_goes (recorded_halves (widened_kept next, refl, wider) (λ awaits. awaits)
       (search (head_is, begun_parity, arith)) Lays made.stage (from_first made.stage)
-      (rw known.3 at (its_recorded takes refl does_is under_is is goes runs)))
+      (rw known.3 at (its_recorded from refl runs))) goes.0.later
       (λ groups time row. join_joins_since join after.state takes.is attach_of.0.1 takes.schedule.going.are stands known
-      made did core bank failed groups time row) under_is refl (alone takes refl does_is under_is is goes)
-      (only takes refl does_is under_is is goes) client_is (widened_kept next, refl, wider) tt
+      made did core bank failed groups time row)) refl client_is (inr (under, under_is, refl))
+      (widened_kept next, refl, wider) (λ asked. tt) (λ its its_is. rw (← same_attach its_is) tt)
+      (only_known after.state takes.was takes.changes runs reach (widened_kept next ∷ []) (only from refl) (alone from))
       (rw same (join_joins_stands join after.state takes.is attach_of.0.1 takes.schedule.going.are stands known made did
       core bank failed)))
     where
@@ -145,4 +147,4 @@ module _ {script : Script} {actor : ℕ} {before after : Station} {clients news 
       next_is = cc
 
       same : calls_under_way news ≡ calls_under_way clients
-      same = same_calls takes refl does_is under_is is goes (cc)
+      same = attach_calls from (ap held_under next_is)

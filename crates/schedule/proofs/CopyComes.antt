@@ -1,5 +1,5 @@
 -- What the first turn of a copy comes to, among the other clients' calls.
-use Rattle.schedule.proofs.Words.{◌≡◌, ℕ, ◌+◌, ◌-◌, List, refl, sym, subst, arith, Some, None, slice_get, false≢true, slice_get_within, Disk, Answer, Map, map_of, CommitRun, ScriptCall, Script, calls_of, CopyRun, Copies, Commits, More, Busy, Done, Core, at_disk, BeginsJobSo, BeginsRound, Stands, rests, job_begins_calls, job_begins_stands, Comes, TakesTurn, HasDropCause, calls_under_way, setting_now, LeavesBegun, Station, turns_of, Client}
+use Rattle.schedule.proofs.Words.{◌≡◌, ℕ, ◌+◌, ◌-◌, List, refl, sym, subst, arith, Some, None, slice_get, slice_get_within, Disk, Answer, map_of, CommitRun, ScriptCall, Script, calls_of, CopyRun, Copies, Commits, More, Busy, Done, Core, at_disk, BeginsJobSo, BeginsRound, Stands, rests, job_begins_calls, job_begins_stands, Comes, TakesTurn, HasDropCause, calls_under_way, setting_now, LeavesBegun, Station, turns_of, Client}
 use Rattle.core_state.specs.declared.answer.Kind.TheVariants as kind
 use Rattle.schedule.specs.declared.client.Work.TheVariants as work
 use Rattle.schedule.proofs.CommitWorks.{copy_makes}
@@ -9,7 +9,7 @@ use Rattle.schedule.proofs.LeavesPool.{LeavesPool, holds_left, job_begun_leaves}
 use Rattle.schedule.proofs.Running.{with_same}
 use Rattle.schedule.proofs.SyncComes.{commit_comes}
 use Rattle.schedule.proofs.Theirs.{calls_of_others, idle_no_attach}
-use Rattle.schedule.proofs.TurnComes.{comes_at_once, comes_begun, comes_nowhere, first_entry, held_gains}
+use Rattle.schedule.proofs.TurnComes.{comes_begun, comes_nowhere, comes_refused, first_entry, held_gains}
 
 module _ {script : Script} {actor : ℕ} {before after : Station} {clients news : List Client} {call : ScriptCall}
     (takes : TakesTurn script actor before after clients news) (asked : call.kind ≡ kind.Copy) (no_id : call.id ≡ None)
@@ -27,8 +27,8 @@ module _ {script : Script} {actor : ℕ} {before after : Station} {clients news 
       → LeavesBegun actor call before after (More (work.Copy (Copies run)))
       → Comes script actor before after clients news
   copy_begins run begins leaves =
-      let gains = held_gains takes call idle change disk next leaves refl false≢true in
-      comes_begun takes call idle change disk next leaves refl false≢true (cc) (asked, no_id)
+      let gains = held_gains takes idle change disk next leaves refl in
+      comes_begun takes idle change disk next leaves refl tt (cc) (asked, no_id)
       (search (job_begins_calls, calls_of_others))
       (λ world past runs. (
         runs.contents actor,
@@ -61,17 +61,10 @@ module _ {script : Script} {actor : ℕ} {before after : Station} {clients news 
   pub copy_at_once : (given : Answer) → BeginsRound old now actor (Done given)
       → LeavesBegun actor call before after (Done given) → Comes script actor before after clients news
   copy_at_once given refused leaves =
-      comes_at_once takes call idle (holds_left refused.1) disk next leaves (search (group_fits, arith))
-      (λ full. absurd (answers.no_full full)) (search arith)
-      (λ world past runs.
-      let map : Map = map_of world.handed world.opening before.items in
-      let entry = first_entry call actor before given in (
-        answers.right world before.items runs.item entry after.state.disk asked refl runs.recorded.latest (search arith)
-            (search arith) (search (rests, arith)),
-        rw (answers.no_block world.handed map entry) (subst (Stands
-            (setting_now runs) runs.last runs.begun map runs.contents (calls_under_way clients) runs.commit)
-            (λ i. at_disk (sym refused.1 i) (sym disk i)) runs.stands),
-      ))
+      comes_refused takes idle (holds_left refused.1) disk next refused.1 leaves (search (group_fits, arith))
+      answers.no_full answers.no_block
+      (λ world past runs. answers.right world before.items runs.item (first_entry call actor before given)
+      after.state.disk asked refl runs.recorded.latest (search arith) (search arith) (search (rests, arith)))
     where
       answers : AnswersCopy old before.state.disk.devices
           (HasDropCause (turns_of before.state before.items clients) (turns_of after.state after.items news)) given

@@ -1,5 +1,5 @@
 -- What a later turn of a copy comes to, among the other clients' calls.
-use Rattle.schedule.proofs.Words.{◌≡◌, ⊎_elim, ℕ, ◌-◌, List, [], ◌∷◌, length, Option, Some, None, refl, sym, ◌∙◌, ap, subst, arith, slice_get, false≢true, Disk, Gains, Answer, Kept, Setting, map_of, World, CommitRun, gains_item, ScriptCall, Script, calls_of, AttachRun, CopyRun, CopyRound, Rests, Copies, Commits, More, Done, BeginsCommitSo, BeginsJobSo, IsJobOf, Core, CoreState, IsRoundOf, StepsCopy, AreCallsOf, Copying, HoldingCall, Stands, TurnGoesOn, rests, job_begins_calls, job_drops_calls, job_steps_calls, job_ends_calls, job_ends_stands, job_begins_stands, job_drops_stands, job_steps_since, job_steps_stands, Comes, TakesTurn, HasDropCause, IsGroupKind, Past, Runs, call_of_client, calls_under_way, commit_in, setting_now, LeavesGoing, Station, entry_for, turns_of, begun_at, Client, UnderWay, Work}
+use Rattle.schedule.proofs.Words.{◌≡◌, ⊎_elim, ℕ, ◌-◌, List, [], length, Option, Some, None, refl, sym, ◌∙◌, ap, subst, arith, slice_get, Disk, Gains, Answer, Kept, Setting, map_of, CommitRun, gains_item, ScriptCall, Script, calls_of, CopyRun, CopyRound, Rests, Copies, Commits, More, Done, BeginsJobSo, IsJobOf, Core, CoreState, IsRoundOf, StepsCopy, AreCallsOf, Copying, HoldingCall, TurnGoesOn, rests, job_begins_calls, job_drops_calls, job_steps_calls, job_ends_calls, job_ends_stands, job_begins_stands, job_drops_stands, job_steps_since, job_steps_stands, Comes, TakesTurn, HasDropCause, IsGroupKind, call_of_client, calls_under_way, commit_in, LeavesGoing, Station, entry_for, turns_of, begun_at, Client, UnderWay, Work}
 use Rattle.core_state.specs.declared.answer.Answer.TheVariants as answer
 use Rattle.core_state.specs.declared.answer.Kind.TheVariants as kind
 use Rattle.schedule.specs.declared.client.Work.TheVariants as work
@@ -12,11 +12,7 @@ use Rattle.schedule.proofs.RightNext.{group_cut_right, same_out}
 use Rattle.schedule.proofs.SyncComes.{commit_comes}
 use Rattle.schedule.proofs.SyncGoes.{cut, group_made}
 use Rattle.schedule.proofs.Theirs.{call_begins, call_ends, calls_stay, held_by_others, other_no_attach}
-use Rattle.schedule.proofs.TurnComes.{comes_ended, comes_finished, comes_going, comes_working, held_gone, held_moves, its_asked, its_number, its_work, next_held}
-
--- A copy is no attach.
-copy_no_attach : (round : CopyRound) (attach : AttachRun) → work.Copy round ≡ work.Attach attach → ⊥
-copy_no_attach round attach same = cc
+use Rattle.schedule.proofs.TurnComes.{GoesFrom, OfRuns, StandsNow, comes_finished, comes_working, held_gone, held_moves, its_asked, its_number, its_work, next_held}
 
 -- Where no device was called the images are as they were.
 still_since : {setting : Setting} {last : Kept} {shown : List Kept} {before after : Disk} → after ≡ before
@@ -37,15 +33,19 @@ module _ {script : Script} {actor : ℕ} {before after : Station} {clients news 
   abbrev ItComes : Type 0
   ItComes = Comes script actor before after clients news
 
+  abbrev from : {round : CopyRound} → under.work ≡ work.Copy round
+      → GoesFrom script actor before after clients news call under (work.Copy round)
+  from does_is = record { takes = takes; does_is = does_is; under_is = under_is; is = is }
+
   -- ---- between two rounds
 
   module _ {was : ℕ} {made : Option ℕ} (does_is : under.work ≡ work.Copy (Rests was made)) where
     -- The rounds are this client's, and what the script asks for.
     its_own : was ≡ actor
-    its_own = (its_work takes call under (work.Copy (Rests was made)) does_is under_is is).hold
+    its_own = (its_work (from does_is)).hold
 
     for_call : (call.kind ≡ kind.Copy) × (call.id ≡ None)
-    for_call = its_asked takes call under (work.Copy (Rests was made)) does_is under_is is
+    for_call = its_asked (from does_is)
 
     -- It holds nothing.
     no_call : call_of_client before.client ≡ []
@@ -55,23 +55,21 @@ module _ {script : Script} {actor : ℕ} {before after : Station} {clients news 
     pub rests_on : (whose : ℕ) (next : Option ℕ)
         → StepsCopy before.state (Rests was made) after.state (More (Rests whose next))
         → LeavesGoing actor call before after under (More (work.Copy (Rests whose next))) → ItComes
-    rests_on whose next steps further = comes_working takes call under (work.Copy (Rests was made)) does_is under_is is
-        false≢true (copy_no_attach (Rests was made)) goes (work.Copy (Rests whose next)) further false≢true
-        (copy_no_attach (Rests whose next)) steps.0.1 (same_keeps old (cc)) (steps.0.0 ∙ its_own) for_call
-        (search (same, arith)) (search (still_since, same, arith))
+    rests_on whose next steps further = comes_working (from does_is) tt
+        (work.Copy (Rests whose next)) further tt goes steps.0.1
+        (same_keeps old (cc)) (steps.0.0 ∙ its_own) for_call (search (same, arith)) (search (still_since, same, arith))
       where
         same : calls_under_way news ≡ calls_under_way clients
-        same = calls_stay takes.was takes.changes no_call (search (next_held, false≢true, copy_no_attach))
+        same = calls_stay takes.was takes.changes no_call (next_held (from does_is) tt
+            (work.Copy (Rests whose next)) further tt)
 
     -- A round begins with a job,
     pub rests_copies : (run : CopyRun) → BeginsJobSo old now was run → after.state.disk ≡ before.state.disk
         → LeavesGoing actor call before after under (More (work.Copy (Copies run))) → ItComes
-    rests_copies run begins disk further = comes_working takes call under
-        (work.Copy (Rests was made)) does_is under_is is
-        false≢true (copy_no_attach (Rests was made)) goes (work.Copy (Copies run)) further false≢true
-        (copy_no_attach (Copies run)) refl (leaves_commit (job_begun_leaves begins))
-        (search (its_own, arith)) for_call (job_begins_calls was begins
-        (λ other listed same. search (held_by_others, no_call, same, its_own)) gains takes.schedule.going.are)
+    rests_copies run begins disk further = comes_working (from does_is) tt (work.Copy (Copies run)) further tt goes refl
+        (leaves_commit (job_begun_leaves begins)) (search (its_own, arith)) for_call
+        (job_begins_calls was begins (λ other listed same. search (held_by_others, no_call, same, its_own)) gains
+        takes.schedule.going.are)
         (λ world past runs. (
           still_since disk,
           (λ has. tt),
@@ -79,36 +77,34 @@ module _ {script : Script} {actor : ℕ} {before after : Station} {clients news 
         ))
       where
         gains : Gains (calls_under_way clients) (calls_under_way news) (Copying run)
-        gains = call_begins takes.was takes.changes no_call (search (next_held, false≢true, copy_no_attach))
+        gains = call_begins takes.was takes.changes no_call (next_held (from does_is) tt
+            (work.Copy (Copies run)) further tt)
 
     -- or with a commit.
     pub rests_commits : (run : CommitRun) → StepsCopy before.state (Rests was made) after.state (More (Commits run))
         → LeavesGoing actor call before after under (More (work.Copy (Commits run))) → ItComes
     rests_commits run steps further = commit_comes copy_makes call takes for_call no_call
-        (other_no_attach under_is does_is (copy_no_attach (Rests was made))) steps.1 steps.0.1
-        (subst (λ (n : ℕ). BeginsCommitSo old now n run) its_own steps.0.2) is further.0
+        (other_no_attach under_is does_is (λ run same. cc)) steps.1 steps.0.1
+        (rw its_own at steps.0.2) is further.0
         (further.1 ∙ ap (λ (at : ℕ). record {
           begun = before.client.begun;
           under_way = Some (record { at = at; work = work.Copy (Commits run) });
         }) (ap (λ (w : Work). begun_at (Some run) (commit_in w) under.at (length before.items)) does_is))
-        (let number = its_number takes call under (work.Copy (Rests was made)) does_is under_is is in omega
-        (arith, number)) (takes.schedule.answered.few actor before.client takes.was)
+        (sym (its_number (from does_is))) (takes.schedule.answered.few actor before.client takes.was)
 
     -- It is answered.
     rest_answers : (given : Answer) → AnswersCopy old before.state.disk.devices
         (HasDropCause (turns_of before.state before.items clients) (turns_of after.state after.items news)) given
         → after.state ≡ before.state → LeavesGoing actor call before after under (Done given) → ItComes
-    rest_answers given answers same ended = comes_finished takes call under
-        (work.Copy (Rests was made)) does_is under_is is
-        false≢true (copy_no_attach (Rests was made)) goes given ended (cc)
+    rest_answers given answers same ended = comes_finished (from does_is) tt given ended goes (cc)
         (holds_left (ap (λ (s : CoreState). s.core) same)) (cc)
         (group_fits old call.kind given (subst IsGroupKind (sym for_call.0) tt)
         (rw for_call.0 answers.answers) answers.tells answers.limit (search (same, arith)))
         answers.no_full (search (calls, same, arith))
-        (λ world past handed runs.
-        let entry = entry_for call actor before.client.begun under.at given in (
-          answers.right world before.items runs.item entry after.state.disk for_call.0 refl runs.recorded.latest
-              (search arith) (search arith) (search (rests, arith)),
+        (λ world past handed runs. (
+          answers.right world before.items runs.item (entry_for call actor before.client.begun under.at given)
+              after.state.disk for_call.0 refl runs.recorded.latest (search arith) (search arith)
+              (search (rests, arith)),
           search (calls, same, arith),
         ))
       where
@@ -128,37 +124,32 @@ module _ {script : Script} {actor : ℕ} {before after : Station} {clients news 
 
   module _ {run : CopyRun} (does_is : under.work ≡ work.Copy (Copies run)) where
     its_job : run.hold.actor ≡ actor
-    its_job = (its_work takes call under (work.Copy (Copies run)) does_is under_is is).hold
+    its_job = (its_work (from does_is)).hold
 
     asked_copy : (call.kind ≡ kind.Copy) × (call.id ≡ None)
-    asked_copy = its_asked takes call under (work.Copy (Copies run)) does_is under_is is
+    asked_copy = its_asked (from does_is)
 
-    was_held : call_of_client before.client ≡ Copying run ∷ []
-    was_held = cc
+    job_of : {left : List HoldingCall} → Gains left (calls_under_way clients) (Copying run) → IsJobOf old run
+    job_of gains = takes.schedule.going.are.each (Copying run) (search (gains_item, gains))
 
     -- A sector was read or written.
     pub copies_on : (next : CopyRun) → StepsCopy before.state (Copies run) after.state (More (Copies next))
         → IsRoundOf now (Copies next)
         → LeavesGoing actor call before after under (More (work.Copy (Copies next))) → ItComes
-    copies_on next steps of further = comes_going takes call under (work.Copy (Copies run)) does_is under_is is
-        (Copying run) refl false≢true goes (Copying next) (work.Copy (Copies next)) further refl false≢true
+    copies_on next steps of further = comes_working (from does_is) tt (work.Copy (Copies next)) further tt goes refl
         (out_keeps steps.1.rest goes.out.still) (search its_job) asked_copy
         (job_steps_calls steps.1 of goes.out.still moves.1 moves.2 takes.schedule.going.are)
         (λ world past runs. (
-          job_steps_since takes.is takes.lawful steps.1 of_old steps.0 goes.out.still moves.1 takes.schedule.going.are
-              runs.stands,
+          job_steps_since takes.is takes.lawful steps.1 (job_of moves.1) steps.0 goes.out.still moves.1
+              takes.schedule.going.are runs.stands,
           (λ has. tt),
-          job_steps_stands takes.is takes.lawful steps.1 of_old steps.0 goes.out.still moves.1 takes.schedule.going.are
-              runs.stands takes.still_lawful moves.2,
+          job_steps_stands takes.is takes.lawful steps.1 (job_of moves.1) steps.0 goes.out.still moves.1
+              takes.schedule.going.are runs.stands takes.still_lawful moves.2,
         ))
       where
         moves : (left : List HoldingCall) × Gains left (calls_under_way clients) (Copying run)
             × Gains left (calls_under_way news) (Copying next)
-        moves = held_moves takes call under (work.Copy (Copies run)) does_is under_is is
-            (Copying run) refl false≢true goes (Copying next) (work.Copy (Copies next)) further refl false≢true
-
-        of_old : IsJobOf old run
-        of_old = search (gains_item, arith)
+        moves = held_moves (from does_is) tt (work.Copy (Copies next)) further tt refl refl
 
     -- All its sectors are copied, or it is given up while a device is out.
     pub copies_end : (whose : ℕ) (made : Option ℕ)
@@ -168,36 +159,32 @@ module _ {script : Script} {actor : ℕ} {before after : Station} {clients news 
         (λ ended. with (search (job_ended_keeps, gains)) (search (job_ends_calls, gains))
         (λ world past runs. rw steps.1 (job_ends_stands takes.is ended.2 gains takes.schedule.going.are ended.0 ended.1
         runs.stands)))
-        (λ dropped. with (leaves_commit (job_dropped_leaves takes.is of_old dropped.1))
-        (search (job_drops_calls, gains))
-        (λ world past runs. rw steps.1 (job_drops_stands takes.is dropped.1 of_old gains runs.stands))) steps.2
+        (λ dropped. with (leaves_commit (job_dropped_leaves takes.is (job_of gains) dropped.1))
+        (search (job_drops_calls, job_of, gains))
+        (λ world past runs. rw steps.1 (job_drops_stands takes.is dropped.1 (job_of gains) gains runs.stands))) steps.2
       where
         gains : Gains (calls_under_way news) (calls_under_way clients) (Copying run)
-        gains = call_ends takes.was takes.changes was_held (search (next_held, false≢true, copy_no_attach))
+        gains = call_ends takes.was takes.changes (cc) (next_held (from does_is) tt
+            (work.Copy (Rests whose made)) further tt)
 
-        of_old : IsJobOf old run
-        of_old = takes.schedule.going.are.each (Copying run) (search (gains_item, gains))
-
-        with : KeepsCommit old now → AreCallsOf now (calls_under_way news)
-            → ((world : World) (past : Past) → (runs : Runs world script past before.state before.items clients)
-            → Stands (setting_now runs) runs.last runs.begun
-            (map_of world.handed world.opening before.items) runs.contents
-            (calls_under_way news) runs.commit after.state) → ItComes
-        with keeps are stands = comes_working takes call under (work.Copy (Copies run)) does_is under_is is false≢true
-            (copy_no_attach (Copies run)) goes (work.Copy (Rests whose made)) further false≢true
-            (copy_no_attach (Rests whose made)) steps.0.1 keeps (steps.0.0 ∙ its_job) asked_copy are
-            (search still_since)
+        with : KeepsCommit old now → AreCallsOf now (calls_under_way news) → OfRuns takes (λ world past runs.
+            StandsNow takes runs runs.contents (map_of world.handed world.opening before.items)
+            (calls_under_way news)) → ItComes
+        with keeps are stands = comes_working (from does_is) tt
+            (work.Copy (Rests whose made)) further tt goes steps.0.1 keeps (steps.0.0 ∙ its_job)
+            asked_copy are (search still_since)
 
     -- Too many devices are out.
     pub copies_cut : {given : Answer} → StepsCopy before.state (Copies run) after.state (Done given)
         → LeavesGoing actor call before after under (Done given) → ItComes
-    copies_cut steps ended = comes_ended takes call under (work.Copy (Copies run)) does_is under_is is (Copying run)
-        refl false≢true goes told was_told was_told.0 (job_dropped_leaves takes.is of_old steps.1) steps.0
+    copies_cut steps ended = comes_finished (from does_is) tt told was_told goes was_told.0
+        (job_dropped_leaves takes.is (job_of gains) steps.1) steps.0
         (group_fits old call.kind told (subst IsGroupKind (sym asked_copy.0) tt) tt
-        (λ listed same. (steps.2, same_out (cc))) (λ reached same. cc) tt) no_full (search (job_drops_calls, gains))
+        (λ listed same. (steps.2, same_out (cc))) (λ reached same. cc) tt) (λ full. cc)
+        (search (job_drops_calls, job_of, gains))
         (λ world past handed runs. (
           search (group_cut_right, told, arith),
-          rw steps.0 (job_drops_stands takes.is steps.1 of_old gains runs.stands),
+          rw steps.0 (job_drops_stands takes.is steps.1 (job_of gains) gains runs.stands),
         ))
       where
         told : Answer
@@ -207,13 +194,7 @@ module _ {script : Script} {actor : ℕ} {before after : Station} {clients news 
         was_told = search
 
         gains : Gains (calls_under_way news) (calls_under_way clients) (Copying run)
-        gains = search (held_gone, false≢true, told, was_told)
-
-        of_old : IsJobOf old run
-        of_old = takes.schedule.going.are.each (Copying run) (search (gains_item, gains))
-
-        no_full : answer.TooManyFailed old.pool.out ≡ answer.Full → ⊥
-        no_full same = cc
+        gains = held_gone (from does_is) tt told was_told refl
 
   -- ---- a commit
 

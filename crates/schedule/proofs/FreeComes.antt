@@ -62,7 +62,7 @@ module _ {script : Script} {actor : ℕ} {before after : Station} {clients news 
   pub free_at_once : Comes script actor before after clients news
   free_at_once =
       let of = frees_of before.state.core after.state.core id given frees.frees in
-      comes_at_once takes call idle (search frees_pool) disk next left (record {
+      comes_at_once takes idle (search frees_pool) disk next left (record {
         of_kind = rw asked of.0;
         tells = λ out told. let many = rw told at frees.frees in
             (many.0, many.1);

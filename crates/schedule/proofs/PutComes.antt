@@ -1,5 +1,5 @@
 -- What the first turn of a client's put comes to.
-use Rattle.schedule.proofs.Words.{◌≡◌, ◌≢◌, ℕ, List, length, Some, None, refl, sym, subst, Contains, slice_get, false≢true, AreBytes, Answer, Entry, map_of, World, ScriptCall, fill_bytes, Script, calls_of, PutRun, More, Busy, Done, Core, BeginsPutTurn, LeavesBlocks, HoldingCall, Stands, actor_of, keeps_gained, begins_rearranges, put_begins_calls, put_refused_calls, put_begins_stands, put_refused_stands, Client, Runs, calls_under_way, setting_now, Station, LeavesBegun, TakesTurn, Comes, Past}
+use Rattle.schedule.proofs.Words.{◌≡◌, ◌≢◌, ℕ, List, length, Some, None, refl, sym, subst, Contains, slice_get, AreBytes, Answer, Entry, map_of, ScriptCall, fill_bytes, Script, calls_of, PutRun, More, Busy, Done, Core, BeginsPutTurn, LeavesBlocks, HoldingCall, actor_of, keeps_gained, begins_rearranges, put_begins_calls, put_refused_calls, put_begins_stands, put_refused_stands, Client, calls_under_way, Station, LeavesBegun, TakesTurn, Comes}
 use Rattle.core_state.specs.declared.answer.Kind.TheVariants as kind
 use Rattle.schedule.specs.declared.client.Work.TheVariants as work
 use Rattle.schedule.proofs.Fitting.{IsPlainKind, fits, plain_no_limit}
@@ -7,7 +7,7 @@ use Rattle.schedule.proofs.RightNext.{put_right}
 use Rattle.schedule.proofs.Theirs.{calls_of_others}
 use Rattle.schedule.proofs.Fulls.{full_put}
 use Rattle.schedule.proofs.Running.{sets_content}
-use Rattle.schedule.proofs.TurnComes.{comes_at_once, comes_begun, comes_waiting, first_entry, held_gains}
+use Rattle.schedule.proofs.TurnComes.{OfRuns, StandsNow, comes_at_once, comes_begun, comes_waiting, first_entry, held_gains}
 use Rattle.schedule.proofs.Puts.{Refuses, put_refused, unstored_plain, unstored_answers, unstored_map, rearranged_leaves, refused_leaves}
 use Rattle.schedule.proofs.LeavesPool.{LeavesPool}
 
@@ -29,8 +29,8 @@ module _ {script : Script} {actor : ℕ} {before after : Station} {clients news 
   pub put_begins : (run : PutRun) → AreBytes content → BeginsPutTurn old now actor id (length content) (More run)
       → LeavesBegun actor call before after (More (work.Put run)) → Comes script actor before after clients news
   put_begins run are begins begun =
-      let gains = held_gains takes call idle change disk next begun refl false≢true in
-      comes_begun takes call idle change disk next begun refl false≢true (cc) (asked, cc, cc)
+      let gains = held_gains takes idle change disk next begun refl in
+      comes_begun takes idle change disk next begun refl tt (cc) (asked, cc, cc)
       (search (put_begins_calls, others))
       (λ world past runs. (
         content,
@@ -47,10 +47,8 @@ module _ {script : Script} {actor : ℕ} {before after : Station} {clients news 
       others = search calls_of_others
 
   -- A refusal leaves what stands.
-  refused_stands : LeavesBlocks old now → (world : World) (past : Past)
-      → (runs : Runs world script past before.state before.items clients)
-      → Stands (setting_now runs) runs.last runs.begun (map_of world.handed world.opening before.items) runs.contents
-      (calls_under_way clients) runs.commit after.state
+  refused_stands : LeavesBlocks old now → OfRuns takes (λ world past runs.
+      StandsNow takes runs runs.contents (map_of world.handed world.opening before.items) (calls_under_way clients))
   refused_stands leaves world past runs = rw disk (put_refused_stands leaves runs.stands)
 
   -- One that finds another's sectors in its way waits.
@@ -64,7 +62,7 @@ module _ {script : Script} {actor : ℕ} {before after : Station} {clients news 
   put_at_once given is leaves =
       let refuses : Refuses old now given = put_refused id (length content) given is in
       let entry : Entry = first_entry call actor before given in
-      comes_at_once takes call idle (refused_leaves old now refuses.leaves) disk next leaves (fits
+      comes_at_once takes idle (refused_leaves old now refuses.leaves) disk next leaves (fits
       (rw asked (unstored_answers given refuses.unstored)) refuses.tells
       (plain_no_limit (unstored_plain given refuses.unstored)) (subst IsPlainKind (sym asked) tt))
       (λ full.

@@ -1,12 +1,12 @@
 -- What each later turn of a client's put comes to.
-use Rattle.schedule.proofs.Words.{◌≡◌, ◌≢◌, ⊎_elim, ℕ, ◌-◌, List, [], ◌∷◌, ◌++◌, Option, Some, refl, sym, ◌∙◌, ap, subst, option_map, slice_get, unwrap_or, false≢true, EndsHold, Gains, gains_item, Answer, Entry, Map, PutBytes, map_of, map_after_answer, with_block, IsAnswerOf, World, ScriptCall, fill_bytes, Script, calls_of, handed_by, PutRun, More, Done, Core, at_disk, IsPutOf, StoresBlock, WritesOne, HoldingCall, Putting, AreCallsOf, Stands, TurnGoesOn, keeps_ended, Rearranges, ends_rearranges, gives_up_rearranges, put_ends_calls, put_gives_up_calls, put_writes_calls, put_ends_stands, put_gives_up_stands, put_shared, put_writes_stands, put_writes_since, Client, UnderWay, IsWorkFor, Runs, calls_under_way, setting_now, Station, EndsPutting, GoesOnPutting, IsFilledIn, LeavesGoing, entry_for, made_by, IsWorldOf, TakesTurn, Comes, Past}
+use Rattle.schedule.proofs.Words.{◌≡◌, ◌≢◌, ⊎_elim, ℕ, ◌-◌, List, [], ◌∷◌, ◌++◌, Option, Some, refl, sym, ◌∙◌, ap, subst, option_map, slice_get, unwrap_or, EndsHold, Gains, gains_item, Answer, Entry, Map, PutBytes, map_of, map_after_answer, with_block, IsAnswerOf, World, ScriptCall, fill_bytes, Script, calls_of, handed_by, PutRun, More, Done, Core, at_disk, IsPutOf, StoresBlock, WritesOne, HoldingCall, Putting, AreCallsOf, Stands, TurnGoesOn, keeps_ended, Rearranges, ends_rearranges, gives_up_rearranges, put_ends_calls, put_gives_up_calls, put_writes_calls, put_ends_stands, put_gives_up_stands, put_shared, put_writes_stands, put_writes_since, Client, UnderWay, IsWorkFor, Runs, calls_under_way, setting_now, Station, EndsPutting, GoesOnPutting, IsFilledIn, LeavesGoing, entry_for, made_by, IsWorldOf, TakesTurn, Comes, Past}
 use Rattle.core_state.specs.declared.answer.Answer.TheVariants as answer
 use Rattle.core_state.specs.declared.answer.Kind.TheVariants as kind
 use Rattle.core_state.specs.declared.item.Item.TheVariants.{Call as CallItem}
 use Rattle.schedule.specs.declared.client.Work.TheVariants as work
 use Rattle.schedule.proofs.Fitting.{IsPlainKind, TellsOut, fits, plain_no_limit}
 use Rattle.schedule.proofs.RightNext.{IsPlain, put_right}
-use Rattle.schedule.proofs.TurnComes.{comes_ended, comes_going, held_gone, held_moves, its_asked, its_content, its_work}
+use Rattle.schedule.proofs.TurnComes.{GoesFrom, comes_finished, comes_working, held_gone, held_moves, its_asked, its_content, its_work}
 use Rattle.schedule.proofs.Puts.{unstored_plain, unstored_answers, unstored_listed, unstored_map, rearranged_leaves}
 use Rattle.schedule.proofs.LeavesPool.{out_keeps}
 use Rattle.schedule.proofs.PutEnds.{FilledAmong, IsGivenUp, IsWhole, fills_among, fills_same, put_ended}
@@ -22,12 +22,15 @@ module _ {script : Script} {actor : ℕ} {before after : Station} {clients news 
   abbrev now : Core
   now = after.state.core
 
+  abbrev from : GoesFrom script actor before after clients news call under (work.Put run)
+  from = record { takes = takes; does_is = does_is; under_is = under_is; is = is }
+
   -- The script asks for it, and it has the client's hold.
   asked_for : IsWorkFor call (work.Put run)
-  asked_for = search its_asked
+  asked_for = its_asked from
 
   its : run.hold.actor ≡ actor
-  its = (its_work takes call under (work.Put run) does_is under_is is).hold
+  its = (its_work from).hold
 
   -- Filled in, it is among the calls still, with the bytes that the script hands it.
   filled_among : {filled : PutRun} → IsFilledIn call run filled → {left : List HoldingCall}
@@ -37,13 +40,12 @@ module _ {script : Script} {actor : ℕ} {before after : Station} {clients news 
 
   content_is : {world : World} {past : Past} (runs : Runs world script past before.state before.items clients)
       → runs.contents run.hold.actor ≡ fill_bytes call.fill
-  content_is runs = ap runs.contents its ∙ its_content takes call under (work.Put run) does_is under_is is runs
+  content_is runs = ap runs.contents its ∙ its_content from runs
 
   -- It goes on by one write.
   pub put_goes_on : (next : PutRun) → GoesOnPutting before.state after.state call run next
       → LeavesGoing actor call before after under (More (work.Put next)) → Comes script actor before after clients news
-  put_goes_on next puts further = comes_going takes call under (work.Put run) does_is under_is is (Putting run) refl
-      false≢true goes (Putting next) (work.Put next) further refl false≢true
+  put_goes_on next puts further = comes_working from tt (work.Put next) further tt goes refl
       (out_keeps writes.rest goes.out.still) (ap (λ (r : PutRun). r.hold.actor) same ∙ its) (
         asked_for.0,
         asked_for.1 ∙ ap (λ (r : PutRun). Some r.range.id) (sym same),
@@ -67,8 +69,7 @@ module _ {script : Script} {actor : ℕ} {before after : Station} {clients news 
 
       moves : (left : List HoldingCall) × Gains left (calls_under_way clients) (Putting run)
           × Gains left (calls_under_way news) (Putting next)
-      moves = held_moves takes call under (work.Put run) does_is under_is is (Putting run) refl false≢true goes
-          (Putting next) (work.Put next) further refl false≢true
+      moves = held_moves from tt (work.Put next) further tt refl refl
 
       filled : FilledAmong before.state (fill_bytes call.fill) moves.0 (calls_under_way clients) run puts.filled
       filled = filled_among puts.fills moves.1
@@ -80,7 +81,7 @@ module _ {script : Script} {actor : ℕ} {before after : Station} {clients news 
     entry = entry_for call actor before.client.begun under.at given
 
     among : FilledAmong before.state (fill_bytes call.fill) (calls_under_way news) (calls_under_way clients) run filled
-    among = search (filled_among, held_gone, false≢true)
+    among = filled_among fills (held_gone from tt given ended refl)
 
     of_filled : IsPutOf old filled
     of_filled = among.are.each (Putting filled) (gains_item (calls_under_way news) among.nexts
@@ -97,8 +98,7 @@ module _ {script : Script} {actor : ℕ} {before after : Station} {clients news 
         (map_after_answer world.handed (map_of world.handed world.opening before.items) entry given) runs.contents
         (calls_under_way news) runs.commit (at_disk now before.state.disk))
         → Comes script actor before after clients news
-    ends_with listed change ends plain answers tells other are stands = comes_ended takes call under
-        (work.Put run) does_is under_is is (Putting run) refl false≢true goes given ended listed
+    ends_with listed change ends plain answers tells other are stands = comes_finished from tt given ended goes listed
         (search (rearranged_leaves, keeps_ended, put_shared, filled, of_filled)) disk
         (fits (rw asked_for.0 answers) tells (plain_no_limit plain) (subst IsPlainKind (sym asked_for.0) tt)) other are
         (λ world past handed runs. (

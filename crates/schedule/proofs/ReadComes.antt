@@ -1,5 +1,5 @@
 -- What the turns of reads come to.
-use Rattle.schedule.proofs.Words.{◌≡◌, ◌≢◌, ℕ, ◌-◌, List, length, Some, None, refl, sym, ◌∙◌, ap, subst, arith, Contains, slice_get, option_and_then, false≢true, Disk, Hold, Gains, Answer, Kind, Entry, Map, map_of, map_after, IsAnswerOf, found_id, gains_item, IsReadRight, ScriptCall, Script, calls_of, map_at_end, GetRun, More, Busy, Done, Core, at_disk, IsReadKind, BeginsGet, HoldingCall, Reading, Stands, TurnGoesOn, actor_of, since_read, get_finds, keeps_gained, get_begins_stands, get_reads_stands, get_begins_calls, get_reads_calls, Client, UnderWay, IsWorkFor, calls_under_way, setting_now, Station, GoesOnReading, EndsReading, LeavesBegun, LeavesGoing, entry_for, TakesTurn, Comes}
+use Rattle.schedule.proofs.Words.{◌≡◌, ◌≢◌, ℕ, ◌-◌, List, Some, None, refl, sym, ◌∙◌, ap, subst, arith, Contains, slice_get, option_and_then, Disk, Hold, Gains, Answer, Kind, Entry, Map, map_of, map_after, IsAnswerOf, found_id, gains_item, IsReadRight, ScriptCall, Script, calls_of, map_at_end, GetRun, More, Busy, Done, Core, at_disk, IsReadKind, BeginsGet, HoldingCall, Reading, Stands, TurnGoesOn, actor_of, since_read, get_finds, keeps_gained, get_begins_stands, get_reads_stands, get_begins_calls, get_reads_calls, Client, UnderWay, IsWorkFor, calls_under_way, setting_now, Station, GoesOnReading, EndsReading, LeavesBegun, LeavesGoing, entry_for, TakesTurn, Comes}
 use Rattle.core_state.specs.declared.answer.Answer.TheVariants as answer
 use Rattle.schedule.specs.declared.client.Work.TheVariants as work
 use Rattle.schedule.proofs.Fitting.{fits, read_plain_kind}
@@ -9,7 +9,7 @@ use Rattle.schedule.proofs.Fulls.{put_alone, read_no_put}
 use Rattle.schedule.proofs.Running.{sets_content, with_content}
 use Rattle.schedule.proofs.ReadAnswers.{EndsRead, listed_read, map_read, right_read, refused_of, refused_right, read_ends_so}
 use Rattle.schedule.proofs.LeavesPool.{LeavesPool, holds_left, leaves_pool, out_keeps}
-use Rattle.schedule.proofs.TurnComes.{comes_at_once, comes_begun, comes_ended, comes_going, comes_nowhere, first_entry, held_gains, held_gone, held_moves, its_asked, its_content, its_going, its_work}
+use Rattle.schedule.proofs.TurnComes.{GoesFrom, comes_begun, comes_finished, comes_nowhere, comes_refused, comes_working, held_gains, held_gone, held_moves, its_asked, its_content, its_going, its_work}
 
 module _ {script : Script} {actor : ℕ} {before after : Station} {clients news : List Client}
     (takes : TakesTurn script actor before after clients news) (call : ScriptCall) where
@@ -31,8 +31,8 @@ module _ {script : Script} {actor : ℕ} {before after : Station} {clients news 
     pub read_begins : (run : GetRun) → BeginsGet old now actor call.kind id (More run)
         → LeavesBegun actor call before after (More (work.Read run)) → ItComes
     read_begins run begins begun =
-        let gains = held_gains takes call idle leaves disk next begun refl false≢true in
-        comes_begun takes call idle leaves disk next begun refl false≢true
+        let gains = held_gains takes idle leaves disk next begun refl in
+        comes_begun takes idle leaves disk next begun refl tt
         (ap (λ (h : Hold). h.actor) begins.4) (sym begins.2, id_is ∙ ap Some (sym entry_id))
         (get_begins_calls actor id call.kind is takes.is begins others gains takes.schedule.going.are)
         (λ world past runs.
@@ -68,20 +68,14 @@ module _ {script : Script} {actor : ℕ} {before after : Station} {clients news 
         → LeavesBegun actor call before after (Done given) → ItComes
     read_at_once given begins left =
         let of = refused_of old id call.kind given is begins.1 in
-        comes_at_once takes call idle (holds_left begins.0) disk next left (search (fits, read_plain_kind, arith))
-        (λ full. absurd (put_alone (read_no_put is) of full)) (search arith)
+        comes_refused takes idle (holds_left begins.0) disk next begins.0 left (search (fits, read_plain_kind, arith))
+        (put_alone (read_no_put is) of) (λ handed map entry. map_read handed entry call.kind given is of)
         (λ world past runs.
         let map = map_of world.handed world.opening before.items in
-        let map_now = map_after world.handed world.opening before.items (length before.items) in
         let none : given ≡ answer.Absent → map id ≡ None = get_finds map old now before.state.disk actor id call.kind
-        (Done given) runs.stands.holds begins in (
-          right_read world call actor given is (search arith) (omega arith) (below_end before.items actor)
-              (search (refused_right, map_at_end, arith)),
-          rw (map_read world.handed (first_entry call actor before given) call.kind given is of)
-              (subst (Stands (setting_now runs) runs.last runs.begun map runs.contents
-              (calls_under_way clients) runs.commit)
-              (λ i. at_disk (sym begins.0 i) (sym disk i)) runs.stands),
-        ))
+        (Done given) runs.stands.holds begins in
+        right_read world call actor given is (search arith) (omega arith) (below_end before.items actor)
+        (search (refused_right, map_at_end, arith)))
 
   -- ---- a read in its later turns
 
@@ -89,18 +83,20 @@ module _ {script : Script} {actor : ℕ} {before after : Station} {clients news 
       (under_is : before.client.under_way ≡ Some under)
       (is : slice_get (calls_of script actor) (before.client.begun - 1) ≡ Some call)
       (goes : TurnGoesOn before.state after.state) where
+    abbrev from : GoesFrom script actor before after clients news call under (work.Read run)
+    from = record { takes = takes; does_is = does_is; under_is = under_is; is = is }
+
     -- The script asks for it, and it has the client's hold.
     asked_for : IsWorkFor call (work.Read run)
-    asked_for = search its_asked
+    asked_for = its_asked from
 
     its : run.hold.actor ≡ actor
-    its = (its_work takes call under (work.Read run) does_is under_is is).hold
+    its = (its_work from).hold
 
     -- A read goes on.
     pub read_goes_on : (next : GetRun) → GoesOnReading before.state after.state run next
         → LeavesGoing actor call before after under (More (work.Read next)) → ItComes
-    read_goes_on next reads further = comes_going takes call under (work.Read run) does_is under_is is
-        (Reading run) refl false≢true goes (Reading next) (work.Read next) further refl false≢true
+    read_goes_on next reads further = comes_working from tt (work.Read next) further tt goes refl
         (out_keeps reads.reads.2 goes.out.still) (ap (λ (r : GetRun). r.hold.actor) same ∙ its) (
           asked_for.0 ∙ sym (ap (λ (r : GetRun). r.kind) same),
           asked_for.1 ∙ sym (ap (λ (r : GetRun). Some r.entry.id) same),
@@ -117,20 +113,19 @@ module _ {script : Script} {actor : ℕ} {before after : Station} {clients news 
 
         moves : (left : List HoldingCall) × Gains left (calls_under_way clients) (Reading run)
             × Gains left (calls_under_way news) (Reading next)
-        moves = held_moves takes call under (work.Read run) does_is under_is is (Reading run) refl false≢true goes
-            (Reading next) (work.Read next) further refl false≢true
+        moves = held_moves from tt (work.Read next) further tt refl refl
 
     -- A read ends.
     pub read_ends : (given : Answer) → EndsReading before.state after.state run given
         → LeavesGoing actor call before after under (Done given) → ItComes
-    read_ends given ending ended = comes_ended takes call under (work.Read run) does_is under_is is (Reading run) refl
-        false≢true goes given ended (search (listed_read, entry, call_read, given_is, arith)) ends.leaves ending.disk
+    read_ends given ending ended = comes_finished from tt given ended goes
+        (search (listed_read, entry, call_read, given_is, arith)) ends.leaves ending.disk
         (search (fits, given_is, read_plain_kind, call_read, arith))
         (λ full. put_alone (read_no_put call_read) given_is full) ends.calls_are
         (λ world past handed runs.
         let map = map_of world.handed world.opening before.items in
-        let mine = runs.each actor before.client under (search its_going) in
-        let content = its_content takes call under (work.Read run) does_is under_is is runs in
+        let mine = runs.each actor before.client under (its_going from) in
+        let content = its_content from runs in
         let done = ends.stands _ _ _ _ _ _ runs.stands in (
           right_read world call actor given call_read mine.at.0 mine.at.1 mine.after
               (rw (ap (option_and_then (map_after world.handed world.opening before.items under.at)) asked_for.1
@@ -143,7 +138,7 @@ module _ {script : Script} {actor : ℕ} {before after : Station} {clients news 
         entry = entry_for call actor before.client.begun under.at given
 
         gone : Gains (calls_under_way news) (calls_under_way clients) (Reading run)
-        gone = search (held_gone, false≢true)
+        gone = held_gone from tt given ended refl
 
         is_read : IsReadKind run.kind
         is_read = (takes.schedule.going.are.each (Reading run) (search (gains_item, gone))).0

@@ -1,17 +1,17 @@
 -- What the first turn of a sync comes to, among the other clients' calls.
-use Rattle.schedule.proofs.Words.{◌≡◌, ℕ, ◌+◌, ◌-◌, ◌≤◌, List, [], ◌∷◌, length, Option, Some, None, refl, sym, ◌∙◌, ap, subst, arith, slice_get, slice_get_within, Disk, Reflow, IsTable, Uber, KeepsOrEnds, Answer, Kind, Map, map_of, CommitRun, ScriptCall, Script, calls_of, More, Busy, Done, Core, at_disk, BeginsCommit, BeginsCommitSo, AreCallsOf, Stands, HoldingCall, few_out, rests, commit_begins_calls, commit_begins_stands, turn_still, Client, UnderWay, Work, call_of_client, calls_under_way, held_under, setting_now, Station, LeavesBegun, TakesTurn, Comes, IsGroupKind}
+use Rattle.schedule.proofs.Words.{◌≡◌, ℕ, ◌+◌, ◌-◌, ◌≤◌, List, [], ◌∷◌, length, Option, Some, None, refl, sym, ◌∙◌, ap, subst, arith, slice_get, slice_get_within, Reflow, IsTable, Uber, KeepsOrEnds, Answer, Kind, Map, map_of, CommitRun, ScriptCall, Script, calls_of, More, Busy, Done, Core, BeginsCommit, BeginsCommitSo, AreCallsOf, Stands, few_out, rests, commit_begins_calls, commit_begins_stands, turn_still, Client, UnderWay, Work, call_of_client, calls_under_way, held_under, setting_now, Station, LeavesBegun, TakesTurn, Comes, IsGroupKind}
 use Rattle.core_state.specs.declared.answer.Kind.TheVariants as kind
 use Rattle.schedule.specs.declared.client.Work.TheVariants as work
 use Rattle.schedule.proofs.CommitWorks.{MakesGroups, sync_makes}
-use Rattle.schedule.proofs.Theirs.{IsNoAttach, OnlyIt, calls_stay, idle_no_attach, none_some, other_no_attach, run_of}
+use Rattle.schedule.proofs.Theirs.{IsNoAttach, OnlyIt, calls_stay, idle_no_attach, none_some, run_of}
 use Rattle.schedule.proofs.Answered.{answered, answered_going, answered_idle}
 use Rattle.schedule.proofs.Coming.{goes_for}
 use Rattle.schedule.proofs.Begun.{begun_now}
 use Rattle.schedule.proofs.Going.{commits_on, keeps_attach}
-use Rattle.schedule.proofs.RunsGoOn.{commit_begins, none_holds}
+use Rattle.schedule.proofs.RunsGoOn.{commit_begins}
 use Rattle.schedule.proofs.Fulls.{put_alone}
 use Rattle.schedule.proofs.LeavesPool.{holds_left}
-use Rattle.schedule.proofs.TurnComes.{RunsOn, first_entry, comes_nowhere, comes_on, comes_at_once}
+use Rattle.schedule.proofs.TurnComes.{RunsOn, comes_nowhere, comes_on, comes_refused}
 use Rattle.schedule.proofs.Refusals.{sync_cause}
 use Rattle.schedule.proofs.Syncs.{no_commit, refused_tells, refused_map, refused_right}
 
@@ -76,15 +76,11 @@ module _ {script : Script} {actor : ℕ} {before after : Station} {clients news 
 
       on : RunsOn script before after clients news before.items
       on world past handed within listed runs =
-          let map : Map = map_of world.handed world.opening before.items in
-          let calls = calls_under_way clients in
-          let none : runs.commit ≡ None =
-          no_commit (setting_now runs) runs.last runs.begun calls runs.commit before.state begins.none
-          runs.stands.groups in
-          let alone : Stands (setting_now runs) runs.last runs.begun map runs.contents calls None before.state =
-          subst (λ (c : Option CommitRun). Stands (setting_now runs) runs.last runs.begun map runs.contents calls c
-          before.state) none runs.stands in
-          let empty : runs.begun ≡ [] = (alone.groups.whole (few_out core begins.few)).0 in
+          let none : runs.commit ≡ None = no_commit (setting_now runs) runs.last runs.begun (calls_under_way clients)
+          runs.commit before.state begins.none runs.stands.groups in
+          let alone = subst (λ (c : Option CommitRun). Stands (setting_now runs) runs.last runs.begun
+          (map_of world.handed world.opening before.items) runs.contents (calls_under_way clients) c before.state) none
+          runs.stands in
           let made = commit_begins_stands takes.lawful takes.is table begins takes.schedule.going.are alone in
           let last : core.pool.uber.group ≡ runs.last.uber.group = ap (λ (u : Uber). u.group) runs.stands.alike in
           let rest = rests core takes.is begins.none in
@@ -93,16 +89,13 @@ module _ {script : Script} {actor : ℕ} {before after : Station} {clients news 
           (subst (λ (r : Reflow). KeepsOrEnds r made.0.uber.reflow)
           (ap (λ (u : Uber). u.reflow) runs.stands.alike) made.3)
           (λ id. ap (λ (m : Map). m id) made.1) in
-          commit_begins after.state takes.was takes.changes runs (does run) run made.0
-          (none_holds after.state takes.was takes.changes runs (made.0 ∷ [])
-          (other_no_attach under_is refl (makes.no_attach run))) empty none (makes.commit run)
-          (ap (λ (r : CommitRun). r.stage) begins.run_is) disk client_is
+          commit_begins after.state takes.was takes.changes runs runs.reach run
+          (alone.groups.whole (few_out core begins.few)).0 none
+          (makes.commit run) (ap (λ (r : CommitRun). r.stage) begins.run_is) disk client_is
           (makes.begins world before.items runs.item (made.0 ∷ []) (length before.items) run (made.0, refl, its))
           (λ asked. makes.content world before.items asked (length before.items) (runs.contents actor) run)
-          (subst (λ (l : List HoldingCall). Stands (setting_now runs) runs.last (made.0 ∷ []) map runs.contents l
-          (Some run) after.state) (sym same_calls)
-          (subst (λ (d : Disk). Stands (setting_now runs) runs.last (made.0 ∷ []) map runs.contents calls (Some run)
-          (at_disk next_core d)) (sym disk) made.5))
+          (λ attach attaches. absurd (makes.no_attach run attach attaches))
+          (rw (same_calls, disk) made.5)
 
 -- ---- a sync
 
@@ -138,18 +131,11 @@ module _ {script : Script} {actor : ℕ} {before after : Station} {clients news 
   pub sync_at_once : (given : Answer) → BeginsCommit old now actor (Done given)
       → LeavesBegun actor call before after (Done given) → Comes script actor before after clients news
   sync_at_once given refused leaves =
-      comes_at_once takes call idle (holds_left refused.1) disk next leaves
-      (search (refused_tells, no_free, sync_cause, arith)) (search (put_alone, no_put, arith)) (search arith)
-      (λ world past runs.
-      let map : Map = map_of world.handed world.opening before.items in
-      let entry = first_entry call actor before given in (
-        refused_right world old given (subst IsGroupKind (sym asked) tt) refl runs.recorded.latest
-            (search (rests, arith)) refused.0,
-        rw (refused_map world.handed entry old given refused.0)
-            (subst (Stands (setting_now runs) runs.last runs.begun map runs.contents
-            (calls_under_way clients) runs.commit)
-            (λ i. at_disk (sym refused.1 i) (sym disk i)) runs.stands),
-      ))
+      comes_refused takes idle (holds_left refused.1) disk next refused.1 leaves
+      (search (refused_tells, no_free, sync_cause, arith)) (search (put_alone, no_put, arith))
+      (λ handed map entry. refused_map handed entry old given refused.0)
+      (λ world past runs. refused_right world old given (subst IsGroupKind (sym asked) tt) refl runs.recorded.latest
+      (search (rests, arith)) refused.0)
     where
       no_put : kind.Sync ≡ kind.Put → ⊥
       no_put same = cc

@@ -1,5 +1,5 @@
 -- What a commit of a sync or of a copy comes to that goes on or ends, among the other clients' calls.
-use Rattle.schedule.proofs.Words.{◌≡◌, ℕ, ◌+◌, ◌-◌, List, [], ◌∷◌, ◌++◌, length, Some, None, refl, sym, ◌∙◌, ap, subst, arith, append_assoc, slice_get, false≢true, Uber, Answer, Kind, Entry, Item, Group, Map, map_of, Kept, Knows, Point, World, CommitRun, ScriptCall, Script, calls_of, AttachRun, Rests, More, Done, Core, CoreState, IsCommitOf, StepsCommit, AnswersGroup, Stands, TurnGoesOn, AreCallsOf, HoldingCall, shown_in, attach_at_answer, few_out, turn_bank, commit_ends_calls, commit_ends_stands, commit_steps_calls, commit_steps_stands, commit_steps_since, Client, UnderWay, Work, ClientsAreAnswered, Recorded, HasBegun, IsGoing, IsWorkOf, AreGoing, Runs, call_of_client, calls_under_way, commit_in, held_under, setting_now, begun_at, turns_of, Station, LeavesGoing, entry_for, group_for, TakesTurn, Comes, Past}
+use Rattle.schedule.proofs.Words.{◌≡◌, inr, IsWithin, HasTooManyOut, held_by, Turns, group_with, ℕ, ◌-◌, List, [], ◌∷◌, length, Some, None, refl, sym, ◌∙◌, ap, subst, arith, append_assoc, slice_get, false≢true, Uber, Answer, Kind, Entry, Group, Map, map_of, Kept, Point, World, CommitRun, ScriptCall, Script, calls_of, Rests, More, Done, Core, CoreState, IsCommitOf, StepsCommit, AnswersGroup, Stands, TurnGoesOn, AreCallsOf, attach_at_answer, few_out, commit_ends_calls, commit_ends_stands, commit_steps_calls, commit_steps_stands, commit_steps_since, Client, UnderWay, Work, Recorded, HasBegun, IsWorkOf, AreGoing, Runs, call_of_client, calls_under_way, commit_in, held_under, setting_now, begun_at, turns_of, Station, LeavesGoing, group_for, TakesTurn, Comes, Past}
 use Rattle.core_state.specs.declared.answer.Answer.TheVariants as answer
 use Rattle.core_state.specs.declared.answer.Kind.TheVariants as kind
 use Rattle.core_state.specs.declared.item.Group.{Group as GroupItem}
@@ -10,15 +10,15 @@ use Rattle.schedule.proofs.Coming.{goes_for}
 use Rattle.schedule.proofs.RightNext.{group_cut_right, sync_right, same_out}
 use Rattle.schedule.proofs.CommitWorks.{MakesGroups}
 use Rattle.schedule.proofs.Theirs.{IsNoAttach, OnlyIt, none_some, calls_stay, no_one, other_no_attach, some_is, the_one}
-use Rattle.schedule.proofs.Answered.{answered, answers_call, answers_group, answers_same}
-use Rattle.schedule.proofs.Fitting.{FitSince, IsPlainKind, fit_both, fit_group, fits, group_fits}
+use Rattle.schedule.proofs.Answered.{answers_group, answers_same}
+use Rattle.schedule.proofs.Fitting.{IsPlainKind, fit_both, fit_group, fits, group_fits}
 use Rattle.schedule.proofs.Fulls.{full_made, full_synced}
-use Rattle.schedule.proofs.Going.{commits_on, commit_ends, keeps_attach, one_commit}
-use Rattle.schedule.proofs.RunsGoOn.{beside_hold, commit_goes_on, none_holds}
-use Rattle.schedule.proofs.RunsEnd.{commit_ends as runs_ends, commit_is_cut, commit_makes as runs_makes}
-use Rattle.schedule.proofs.Recording.{recorded_halves, recorded_whole}
-use Rattle.schedule.proofs.Syncs.{begun_parity, halves_go, its_commit}
-use Rattle.schedule.proofs.TurnComes.{RunsOn, came_listed, comes_answered, comes_further, its_asked, its_going, its_number, its_place, its_work, there_still}
+use Rattle.schedule.proofs.Going.{KeepsAttach, commits_on, commit_ends, keeps_attach}
+use Rattle.schedule.proofs.RunsGoOn.{beside_known, commit_runs}
+use Rattle.schedule.proofs.RunsEnd.{commit_ends as runs_ends, commit_is_cut, commit_makes}
+use Rattle.schedule.proofs.Recording.{recorded_goes}
+use Rattle.schedule.proofs.Syncs.{halves_go}
+use Rattle.schedule.proofs.TurnComes.{GoesFrom, comes, comes_further, comes_last, halves_recorded, idle_now, its_answered, its_asked, its_commit, its_going, its_stands, last_entry, only, whole_recorded}
 
 module _ {script : Script} {actor : ℕ} {before after : Station} {clients news : List Client} {asked : Kind}
     {does : CommitRun → Work} (makes : MakesGroups asked does) {call : ScriptCall}
@@ -32,87 +32,66 @@ module _ {script : Script} {actor : ℕ} {before after : Station} {clients news 
   abbrev now : Core
   now = after.state.core
 
+  abbrev was : Turns
+  was = turns_of before.state before.items clients
+
+  abbrev left : Turns
+  left = turns_of after.state after.items news
+
   abbrev ItComes : Type 0
   ItComes = Comes script actor before after clients news
 
-  commit_is : commit_in under.work ≡ Some run
-  commit_is = ap commit_in does_is ∙ makes.commit run
+  abbrev from : GoesFrom script actor before after clients news call under (does run)
+  from = record { takes = takes; does_is = does_is; under_is = under_is; is = is }
 
-  syncing : IsGoing clients actor before.client under
-  syncing = search its_going
-
-  -- No other client makes a commit,
-  only : OnlyIt clients actor
-  only = one_commit takes.schedule.going syncing commit_is
-
-  -- the commit is the core's,
+  -- The commit is the core's,
   of_core : IsCommitOf old run × (old.committing ≡ Some actor)
-  of_core = (its_work takes call under (does run) does_is under_is is).commit run (makes.commit run)
+  of_core = its_commit from (makes.commit run)
 
   -- and what the script asks for.
   for_call : (call.kind ≡ asked) × (call.id ≡ None)
-  for_call = makes.is call run (search its_asked)
+  for_call = makes.is call run (its_asked from)
 
-  its_next : before.client.begun ≡ answered before.client + 1
-  its_next = search its_number
-
-  its_there : slice_get (calls_of script actor) (answered before.client) ≡ Some call
-  its_there = search its_place
+  only_it : OnlyIt clients actor
+  only_it = only from (makes.commit run)
 
   -- The calls that hold sectors are the same.
   same_calls : call_of_client after.client ≡ [] → calls_under_way news ≡ calls_under_way clients
-  same_calls = calls_stay takes.was takes.changes (search arith)
+  same_calls = calls_stay takes.was takes.changes (ap held_under under_is ∙ ap held_by does_is ∙ makes.holds run)
 
-  -- It is the commit that stands.
-  its_stands : {world : World} {past : Past} (runs : Runs world script past before.state before.items clients)
-      → Stands (setting_now runs) runs.last runs.begun (map_of world.handed world.opening before.items) runs.contents
-      (calls_under_way clients) (Some run) before.state
-  its_stands {world = world} runs = rw (← its_commit runs.commit syncing commit_is only runs.theirs) runs.stands
-
-  -- What the journal tells then is of the groups that images can show,
-  its_recorded : {world : World} {past : Past} (runs : Runs world script past before.state before.items clients)
-      → Recorded world past before.items runs.item runs.last (shown_in runs.begun run.stage) before.state.disk
-  its_recorded {world = world} {past = past} runs = rw (its_commit runs.commit syncing commit_is only runs.theirs)
-      at runs.recorded
-
-  -- and the group begun is the call's.
+  -- The group begun is the call's.
   its_group : {world : World} {past : Past} (runs : Runs world script past before.state before.items clients)
       → HasBegun world before.items runs.item runs.begun under.at ⊥
   its_group {world = world} runs = makes.begun world before.items runs.item runs.begun under.at run
-      (rw does_is at (runs.each actor before.client under syncing).group)
-
-  -- It comes into the record where its commit is cut short or ends.
-  whole_recorded : {world : World} {past : Past} (runs : Runs world script past before.state before.items clients)
-      → Recorded world past before.items runs.item runs.last runs.begun before.state.disk
-  whole_recorded runs = recorded_whole (its_group runs) (λ attached. absurd attached) (begun_parity (its_stands runs))
-      run.stage (its_recorded runs)
+      (rw does_is at (runs.each actor before.client under (its_going from)).group)
 
   was_no_attach : IsNoAttach before.client.under_way
-  was_no_attach = search (other_no_attach, arith)
+  was_no_attach = other_no_attach under_is does_is (makes.no_attach run)
 
   -- It goes on.
   pub commit_goes_further : (next : CommitRun) → StepsCommit before.state run after.state (More next)
       → LeavesGoing actor call before after under (More (does next)) → ItComes
-  commit_goes_further next steps further = comes_further takes call under (does run) does_is under_is is (does next)
+  commit_goes_further next steps further = comes_further from (does next)
       (goes_for goes) further (makes.made next) (commits_on takes.was takes.changes takes.schedule.going
       (search (same_calls, none, commit_steps_calls)) next call (search (keeps_attach, arith))
-      only was_no_attach (makes.no_attach next) next_is (makes.commit next) (makes.its actor next)
+      only_it was_no_attach (makes.no_attach next) next_is (makes.commit next) (makes.its actor next)
       (cc) (makes.for call next for_call) steps.3 (ap (λ (c : Core). c.committing) steps.2 ∙ of_core.1))
       (λ world past handed within listed runs.
+      let stands = its_stands from (makes.commit run) runs in
       let borne = within (few_out old steps.0) in
-      commit_goes_on after.state takes.was takes.changes runs under next
-      (none_holds after.state takes.was takes.changes runs runs.begun
-      (other_no_attach next_is refl (makes.no_attach next)))
-      (search beside_hold) goes.later (recorded_halves (its_group runs) (λ attached. absurd attached)
-      (begun_parity (its_stands runs)) run.stage
-      next.stage (halves_go steps.1) (its_recorded runs)) (commit_steps_since takes.is steps borne (its_stands runs))
-      under_is (makes.commit next) client_is
-      (λ group. makes.begins world before.items runs.item runs.begun under.at next (its_group runs)) (search arith)
-      (search (same_calls, none, commit_steps_stands, its_stands)))
+      commit_runs after.state takes.was takes.changes runs runs.reach next
+      (recorded_goes (halves_recorded from (makes.commit run) runs (its_group runs) (λ attached. absurd attached)
+      next.stage (halves_go steps.1)) goes.later
+      (commit_steps_since takes.is steps borne stands))
+      (makes.commit next) client_is (inr (under, under_is, refl))
+      (makes.begins world before.items runs.item runs.begun under.at next (its_group runs))
+      (λ asked. makes.content world before.items asked under.at (runs.contents actor) next)
+      (λ attach attaches. absurd (makes.no_attach next attach attaches)) (search beside_known)
+      (rw (same_calls none) (commit_steps_stands takes.is steps borne stands)))
     where
       -- The group of its commit was begun when it was told before.
       at_is : begun_at (commit_in (does next)) (commit_in under.work) under.at (length before.items) ≡ under.at
-      at_is = search (commit_is, arith)
+      at_is = search arith
 
       client_is : after.client
           ≡ record { begun = before.client.begun; under_way = Some (record { at = under.at; work = does next }) }
@@ -124,200 +103,149 @@ module _ {script : Script} {actor : ℕ} {before after : Station} {clients news 
       none : call_of_client after.client ≡ []
       none = ap held_under next_is ∙ makes.holds next
 
-  -- It ends.
-  module _ (given : Answer) (ended : LeavesGoing actor call before after under (Done given)) where
-    abbrev entry : Entry
-    entry = entry_for call actor before.client.begun under.at given
+  -- Its group is answered: what the core and the journal say of that.
+  module _ {number : ℕ} (answers : AnswersGroup before.state run after.state number) where
+    abbrev group : GroupItem
+    group = group_for now under.at number
 
-    idle_now : after.client.under_way ≡ None
-    idle_now = cc
+    disk_is : after.state.disk ≡ before.state.disk
+    disk_is = ap (λ (p : Point). p.disk) answers.ends.same
 
-    ended_calls : calls_under_way news ≡ calls_under_way clients
-    ended_calls = same_calls (cc)
+    keeps : KeepsAttach old now
+    keeps = record {
+      attaching = ap (λ (c : Core). c.attaching) answers.answers.rest;
+      early = λ its before_it.
+          attach_at_answer before.state after.state run number its before_it takes.is of_core.0 answers;
+    }
 
-    -- With its entry the journal answers one call more.
-    answered_end : {items : List Item} → ClientsAreAnswered script clients items
-        → ClientsAreAnswered script news (items ++ CallItem entry ∷ [])
-    answered_end {items = items} were = answers_call takes.changes takes.was (search arith)
-        (search (no_one, idle_now)) were entry (ap answered ended.1 ∙ its_next) its_there refl its_next refl refl
+    none_now : {by : ℕ} → now.committing ≡ Some by → HasTooManyOut now
+    none_now its = absurd (none_some (sym (ap (λ (c : Core). c.committing) answers.answers.rest) ∙ its))
 
-  -- Its group is answered, and listed before it.
-  synced : asked ≡ kind.Sync → (number : ℕ) → AnswersGroup before.state run after.state number
-      → LeavesGoing actor call before after under (Done (answer.Synced number)) → ItComes
-  synced sync number answers leaves = record {
-    come = came_listed takes (Group group ∷ CallItem entry ∷ []) (goes_for goes) (leaves.0 ∙ both) fit
-        (subst (RunsOn script before after clients news) both on)
-        (full_synced script (turns_of before.state before.items clients) (turns_of after.state after.items news) group
-        entry leaves.0 (λ full. no_full full));
-    schedule = record {
-      going = commit_ends takes.was takes.changes takes.schedule.going
-          (subst (AreCallsOf now) (sym (ended_calls (answer.Synced number) leaves))
-          (commit_ends_calls takes.is of_core.0 answers (calls_under_way clients) takes.schedule.going.are)) (record {
-            attaching = ap (λ (c : Core). c.attaching) answers.answers.rest;
-            early = λ its before_it. attach_at_answer before.state after.state run number its before_it takes.is
-                of_core.0 answers;
-          }) only was_no_attach
-          (no_one (λ its. IsWorkOf script now actor after.client its.work) (idle_now (answer.Synced number) leaves))
-          (λ its is. absurd (none_some (sym (ap (λ (c : Core). c.committing) answers.answers.rest) ∙ is)));
-      answered = subst (ClientsAreAnswered script news) (sym leaves.0) (answered_end (answer.Synced number) leaves
-          (answers_group group takes.schedule.answered));
-      bank = turn_bank before.state after.state goes takes.schedule.bank;
-      there = there_still takes (goes_for goes);
-    };
-  }
-    where
-      entry : Entry
-      entry = entry_for call actor before.client.begun under.at (answer.Synced number)
+    ended_are : call_of_client after.client ≡ [] → AreCallsOf now (calls_under_way news)
+    ended_are none = rw (same_calls none)
+        (commit_ends_calls takes.is of_core.0 answers (calls_under_way clients) takes.schedule.going.are)
 
-      group : GroupItem
-      group = group_for now under.at number
+    module _ {world : World} {past : Past} (runs : Runs world script past before.state before.items clients)
+        (within : IsWithin old.pool.out world.setting.failed) where
+      abbrev map : Map
+      map = map_of world.handed world.opening before.items
 
-      both : (before.items ++ Group group ∷ []) ++ CallItem entry ∷ [] ≡ before.items ++ Group group ∷ CallItem entry
-          ∷ []
-      both = append_assoc before.items (Group group ∷ []) (CallItem entry ∷ [])
+      stands : Stands (setting_now runs) runs.last runs.begun map runs.contents (calls_under_way clients) (Some run)
+          before.state
+      stands = its_stands from (makes.commit run) runs
 
-      disk : after.state.disk ≡ before.state.disk
-      disk = ap (λ (p : Point). p.disk) answers.ends.same
+      abbrev next : Kept
+      next = stands.groups.next
 
-      no_full : answer.Synced number ≡ answer.Full → ⊥
-      no_full same = cc
+      stood : Stands (setting_now runs) next [] map runs.contents (calls_under_way clients) None after.state
+      stood = commit_ends_stands takes.is of_core.0 answers takes.schedule.going.are within
+          (rw stands.groups.begun_is at stands)
 
-      no_limit : (reached : ℕ) → answer.Synced number ≡ answer.Limit reached → ⊥
-      no_limit reached told = cc
+      group_is : group ≡ record {
+        group = next.uber.group;
+        after = under.at;
+        from = next.uber.reflow.from;
+        to = next.uber.reflow.to;
+      }
+      group_is =
+          let number_is = answers.group_is ∙ sym stands.groups.of.number
+          ∙ ap (λ (u : Uber). u.group) stands.groups.come.alike in
+          let reflow_is = ap (λ (u : Uber). u.reflow) stood.alike in
+          λ i. group_with (reflow_is i) under.at (number_is i)
 
-      none_out : (listed : ℕ) → answer.Synced number ≡ answer.TooManyFailed listed → ⊥
-      none_out listed told = cc
-
-      -- The group answers no call, and the entry fits the sync.
-      fit : FitSince (turns_of before.state before.items clients) (turns_of after.state after.items news)
-      fit = fit_both (turns_of before.state before.items clients) (turns_of after.state after.items news) entry
-          (fits (for_call.0 ∙ sync) (λ listed told. absurd (none_out listed told)) no_limit
-          (subst IsPlainKind (sym (for_call.0 ∙ sync)) tt)) goes.out.still group leaves.0
-
-      on : RunsOn script before after clients news ((before.items ++ Group group ∷ []) ++ CallItem entry ∷ [])
-      on world past handed within listed runs =
-          let map : Map = map_of world.handed world.opening before.items in
-          let stands = its_stands runs in
-          let next : Kept = stands.groups.next in
-          let stood = commit_ends_stands takes.is of_core.0 answers takes.schedule.going.are
-          (within (few_out old answers.few))
-          (subst (λ (l : List Kept). Stands (setting_now runs) runs.last l map runs.contents (calls_under_way clients)
-          (Some run) before.state) stands.groups.begun_is stands) in
-          let number_is : number ≡ next.uber.group =
-          answers.group_is ∙ sym stands.groups.of.number ∙ ap (λ (u : Uber). u.group) stands.groups.come.alike in
-          let reflow_is : now.pool.uber.reflow ≡ next.uber.reflow = ap (λ (u : Uber). u.reflow) stood.alike in
-          let mine = runs.each actor before.client under syncing in
-          runs_ends after.state takes.was takes.changes runs under refl (idle_now (answer.Synced number) leaves)
-          (its_group runs) (whole_recorded runs) stands.groups.begun_is only disk
-          (λ i. record {
-            group = number_is i;
-            after = under.at;
-            from = (reflow_is i).from;
-            to = (reflow_is i).to;
-          })
-          (λ attached. absurd attached)
-          (sync_right world before.items group entry after.state.disk (for_call.0 ∙ sync) refl mine.at.0 mine.after)
-          (for_call.0 ∙ sync) refl (subst (Knows (setting_now runs) next []) disk stood.groups.knows) listed
-          (subst (λ (l : List HoldingCall). Stands (setting_now runs) next [] map runs.contents l None after.state)
-          (sym (ended_calls (answer.Synced number) leaves)) stood)
+      whole : Recorded world past before.items runs.item runs.last runs.begun before.state.disk
+      whole = whole_recorded from (makes.commit run) runs (its_group runs) (λ attached. absurd attached)
 
   -- A copy goes on behind its group, which is listed alone.
   pub group_made : asked ≡ kind.Copy → (whose number : ℕ) → old.committing ≡ Some whose
       → AnswersGroup before.state run after.state number
       → LeavesGoing actor call before after under (More (work.Copy (Rests whose (Some number)))) → ItComes
-  group_made copy whose number committing answers further = record {
-    come = came_listed takes (Group group ∷ []) (goes_for goes) items_are (search (fit_group, group, items_are))
-        on (search (full_made, group, items_are));
-    schedule = record {
-      going = commit_ends takes.was takes.changes takes.schedule.going
-          (rw same (commit_ends_calls takes.is of_core.0 answers (calls_under_way clients) takes.schedule.going.are))
-          (record {
-            attaching = cc;
-            early = λ its before_it. attach_at_answer before.state after.state run number its before_it takes.is
-                of_core.0 answers;
-          }) only was_no_attach (the_one (λ its. IsWorkOf script now actor after.client its.work) rests_now (record {
-            hold = some_is (sym committing ∙ of_core.1);
-            call = call;
-            there = cc;
-            asked = (for_call.0 ∙ copy, for_call.1);
-            commit = λ other its. cc;
-            attach = λ other its. cc;
-          }))
-          (λ its is. cc);
-      answered = subst (ClientsAreAnswered script news) (sym items_are) (answers_same takes.changes takes.was
-          (search (begun_is, arith))
-          (λ its_under its_is. omega (
-            arith,
-            takes.schedule.answered.some actor before.client under takes.was under_is,
-            begun_is,
-          )) (answers_group group takes.schedule.answered) (cc));
-      bank = search turn_bank;
-      there = there_still takes (goes_for goes);
-    };
-  }
+  group_made copy whose number committing answers further = comes takes (Group (group answers) ∷ []) refl
+      (goes_for goes) further.0 (fit_group was left (group answers) further.0)
+      (λ world past handed within listed runs.
+      let failed = within (few_out old answers.few) in
+      commit_makes after.state takes.was takes.changes runs under (its_group runs) (whole answers runs failed)
+      (stands answers runs failed).groups.begun_is only_it (disk_is answers) (group_is answers runs failed)
+      (rw (same_calls none) (stood answers runs failed)) (λ attached. attached) further.1 under_is false≢true
+      (λ run same. cc) (λ asked_call asked_is. tt) listed)
+      (full_made script was left (group answers) further.0)
+      (commit_ends takes.was takes.changes takes.schedule.going (ended_are answers none) (keeps answers) only_it
+      was_no_attach (the_one (λ its. IsWorkOf script now actor after.client its.work) rests_now (record {
+        hold = some_is (sym committing ∙ of_core.1);
+        call = call;
+        there = cc;
+        asked = (for_call.0 ∙ copy, for_call.1);
+        commit = λ other its. cc;
+        attach = λ other its. cc;
+      })) (λ by. none_now answers))
+      (answers_same takes.changes takes.was (search (begun_is, arith))
+      (λ its_under its_is. omega (
+        arith,
+        takes.schedule.answered.some actor before.client under takes.was under_is,
+        begun_is,
+      )) (answers_group (group answers) takes.schedule.answered) (cc))
     where
-      group : GroupItem
-      group = group_for now under.at number
-
-      items_are : after.items ≡ before.items ++ Group group ∷ []
-      items_are = further.0
-
-      client_is : after.client ≡ record {
-        begun = before.client.begun;
-        under_way = Some (record { at = under.at; work = work.Copy (Rests whose (Some number)) });
-      }
-      client_is = further.1
-
       rests_now : after.client.under_way ≡ Some (record { at = under.at; work = work.Copy (Rests whose (Some number)) })
-      rests_now = cc
+      rests_now = ap (λ (c : Client). c.under_way) further.1
+
+      none : call_of_client after.client ≡ []
+      none = ap held_under rests_now
 
       begun_is : after.client.begun ≡ before.client.begun
-      begun_is = cc
+      begun_is = ap (λ (c : Client). c.begun) further.1
 
-      same : calls_under_way news ≡ calls_under_way clients
-      same = same_calls (cc)
+  -- Its group is answered, and listed before the entry of its call.
+  synced : asked ≡ kind.Sync → (number : ℕ) → AnswersGroup before.state run after.state number
+      → LeavesGoing actor call before after under (Done (answer.Synced number)) → ItComes
+  synced sync number answers leaves = comes takes (Group (group answers) ∷ CallItem entry ∷ [])
+      (append_assoc before.items (Group (group answers) ∷ []) (CallItem entry ∷ [])) (goes_for goes) leaves.0
+      (fit_both was left entry (fits (for_call.0 ∙ sync) (λ listed told. cc) (λ reached told. cc)
+      (subst IsPlainKind (sym (for_call.0 ∙ sync)) tt)) goes.out.still (group answers) leaves.0)
+      (λ world past handed within listed runs.
+      let failed = within (few_out old answers.few) in
+      let mine = runs.each actor before.client under (its_going from) in
+      runs_ends after.state takes.was takes.changes runs under (its_group runs) (whole answers runs failed)
+      (stands answers runs failed).groups.begun_is only_it (disk_is answers) (group_is answers runs failed)
+      (rw (same_calls none) (stood answers runs failed)) refl (idle_now from (answer.Synced number) leaves)
+      (λ attached. absurd attached)
+      (sync_right world before.items (group answers) entry after.state.disk (for_call.0 ∙ sync) refl mine.at.0
+      mine.after) (for_call.0 ∙ sync) refl listed)
+      (full_synced script was left (group answers) entry leaves.0 (λ full. cc))
+      (commit_ends takes.was takes.changes takes.schedule.going (ended_are answers none) (keeps answers) only_it
+      was_no_attach (no_one (λ its. IsWorkOf script now actor after.client its.work)
+      (idle_now from (answer.Synced number) leaves)) (λ by. none_now answers))
+      (its_answered from (answer.Synced number) leaves (answers_group (group answers) takes.schedule.answered))
+    where
+      entry : Entry
+      entry = last_entry from (answer.Synced number) leaves
 
-      no_attach : (attach : AttachRun) → work.Copy (Rests whose (Some number)) ≡ work.Attach attach → ⊥
-      no_attach attach is_attach = cc
-
-      disk : after.state.disk ≡ before.state.disk
-      disk = ap (λ (p : Point). p.disk) answers.ends.same
-
-      on : RunsOn script before after clients news (before.items ++ Group group ∷ [])
-      on world past handed within listed runs =
-          let map : Map = map_of world.handed world.opening before.items in
-          let stands = its_stands runs in
-          let next : Kept = stands.groups.next in
-          let stood = commit_ends_stands takes.is of_core.0 answers takes.schedule.going.are
-          (within (few_out old answers.few)) (rw stands.groups.begun_is at stands) in
-          let number_is : number ≡ next.uber.group =
-          answers.group_is ∙ sym stands.groups.of.number ∙ ap (λ (u : Uber). u.group) stands.groups.come.alike in
-          let reflow_is : now.pool.uber.reflow ≡ next.uber.reflow = ap (λ (u : Uber). u.reflow) stood.alike in
-          runs_makes after.state takes.was takes.changes runs
-          under_is client_is false≢true no_attach (λ asked_call asked_is. tt)
-          (its_group runs) (whole_recorded runs) stands.groups.begun_is only disk
-          (search group) (search (disk, arith)) listed (search same)
+      none : call_of_client after.client ≡ []
+      none = ap held_under (idle_now from (answer.Synced number) leaves)
 
   -- It is cut short.
   pub cut : (out : ℕ) → StepsCommit before.state run after.state (Done (answer.TooManyFailed out))
       → LeavesGoing actor call before after under (Done (answer.TooManyFailed out)) → ItComes
-  cut out steps leaves = comes_answered takes under.at its_next its_there (goes_for goes) leaves.0 leaves.1
+  cut out steps leaves = comes_last from given leaves (goes_for goes) leaves.0
       (search (group_fits, given, same_out, no_limit, arith)) (λ full. cc)
       (subst (λ (s : CoreState). AreGoing script s.core news) (sym steps.2)
-      (commit_ends takes.was takes.changes takes.schedule.going (rw (ended_calls given leaves) takes.schedule.going.are)
-      (keeps_attach refl refl refl) only was_no_attach (search (no_one, idle_now, given, arith))
+      (commit_ends takes.was takes.changes takes.schedule.going (rw same takes.schedule.going.are)
+      (keeps_attach refl refl refl) only_it was_no_attach
+      (no_one (λ its. IsWorkOf script old actor after.client its.work) (idle_now from given leaves))
       (λ its is. steps.0)))
       (λ world past handed within listed runs.
       let map : Map = map_of world.handed world.opening before.items in
-      let stood = cut_stands steps.0 (its_stands runs) in
-      commit_is_cut after.state takes.was takes.changes runs None (whole_recorded runs) refl
-      (idle_now given leaves) (cc)
-      stood.groups.knows (search (group_cut_right, entry, given, arith)) tt listed refl only
-      (rw (ended_calls given leaves) (subst (Stands (setting_now runs) runs.last runs.begun map runs.contents
+      let stood = cut_stands steps.0 (its_stands from (makes.commit run) runs) in
+      commit_is_cut after.state takes.was takes.changes runs None
+      (whole_recorded from (makes.commit run) runs (its_group runs) (λ attached. absurd attached)) refl
+      (idle_now from given leaves) (cc) (search (group_cut_right, last_entry, given, arith)) tt listed
+      refl only_it (rw same (subst (Stands (setting_now runs) runs.last runs.begun map runs.contents
       (calls_under_way clients) None) (sym steps.2) stood)))
     where
       given : Answer
       given = answer.TooManyFailed out
+
+      same : calls_under_way news ≡ calls_under_way clients
+      same = same_calls (ap held_under (idle_now from given leaves))
 
       no_limit : (reached : ℕ) → answer.TooManyFailed out ≡ answer.Limit reached → ⊥
       no_limit reached same = cc
