@@ -1,8 +1,8 @@
 -- What the first turn of an attach comes to, among the other clients' calls.
-use Rattle.schedule.proofs.Words.{◌≡◌, ℕ, ◌+◌, ◌-◌, List, length, Some, None, refl, sym, ◌∙◌, ap, subst, arith, slice_get, slice_get_within, none_read, Answer, map_of, ScriptCall, Script, calls_of, AttachRun, More, Busy, Done, BeginsAttach, BeginsAttachSo, attach_commit, Core, at_disk, AreCallsOf, Stands, attaching_calls, attaching_stands, turn_still, Client, UnderWay, calls_under_way, setting_now, Station, LeavesBegun, TakesTurn, Comes}
+use Rattle.schedule.proofs.Words.{◌≡◌, ℕ, ◌+◌, ◌-◌, List, length, Some, None, refl, sym, ap, subst, arith, slice_get, slice_get_within, none_read, Answer, map_of, ScriptCall, Script, calls_of, AttachRun, More, Busy, Done, BeginsAttach, BeginsAttachSo, attach_commit, at_disk, Stands, attaching_calls, attaching_stands, turn_still, Client, UnderWay, calls_under_way, setting_now, Station, LeavesBegun, TakesTurn, Comes}
 use Rattle.core_state.specs.declared.answer.Kind.TheVariants as kind
 use Rattle.schedule.specs.declared.client.Work.TheVariants as work
-use Rattle.schedule.proofs.Answered.{answered, answered_idle}
+use Rattle.schedule.proofs.Answered.{answered_idle}
 use Rattle.schedule.proofs.Coming.{goes_for}
 use Rattle.schedule.proofs.Fitting.{attach_fits}
 use Rattle.schedule.proofs.Going.{attach_begins as going_begins}
@@ -11,27 +11,34 @@ use Rattle.schedule.proofs.Refusals.{IsRefusal, refusal_answers, refusal_map, re
 use Rattle.schedule.proofs.RunsGoOn.{begins as runs_begins}
 use Rattle.schedule.proofs.Theirs.{none_there, calls_stay, none_some, same_attach}
 use Rattle.schedule.proofs.Running.{with_same}
-use Rattle.schedule.proofs.TurnComes.{RunsOn, comes_nowhere, comes_on, comes_refused}
+use Rattle.schedule.proofs.TurnComes.{comes_nowhere, comes_refused, comes_under}
 
 module _ {script : Script} {actor : ℕ} {before after : Station} {clients news : List Client} {call : ScriptCall}
     (takes : TakesTurn script actor before after clients news) (asked : call.kind ≡ kind.Attach)
     (no_id : call.id ≡ None) (idle : before.client.under_way ≡ None)
     (next : slice_get (calls_of script actor) before.client.begun ≡ Some call)
     (disk : after.state.disk ≡ before.state.disk) where
-  abbrev old : Core
-  old = before.state.core
-
-  abbrev now : Core
-  now = after.state.core
+  open before.state use {core as old}
+  open after.state use {core as now}
 
   -- An attach begins: nothing of the new device's ring is read yet.
   pub attach_begins : (run : AttachRun) → BeginsAttachSo old now before.state.disk.devices actor run
       → LeavesBegun actor call before after (More (work.Attach run)) → Comes script actor before after clients news
-  attach_begins run begins leaves = comes_on takes (goes_for (turn_still before.state after.state (cc) (cc) (cc) disk))
-      leaves.0 (ap answered leaves.1 ∙ number ∙ sym (answered_idle idle)) (search (slice_get_within, begun_is, arith))
-      (λ its_under is. omega (arith, begun_is))
-      (going_begins takes.was takes.changes takes.schedule.going are begins.none.0 (cc) under run under_is refl
-      (cc) (cc) (search (number, none_some, no_commit, same_attach, arith))) on
+  attach_begins run begins leaves = comes_under takes
+      (goes_for (turn_still before.state after.state (cc) (cc) (cc) disk)) leaves.0 leaves.1
+      (ap (λ (n : ℕ). n + 1) (sym (answered_idle idle))) (search (slice_get_within, arith))
+      (going_begins takes.was takes.changes takes.schedule.going
+      (rw (same_calls, begins.rest) (attaching_calls old (Some actor) (calls_under_way clients)
+      takes.schedule.going.are)) begins.none.0 (cc) under run under_is refl
+      (cc) (cc) (search (number, none_some, no_commit, same_attach, arith)))
+      (λ world past handed within listed runs.
+      runs_begins after.state takes.was takes.changes runs (runs.contents actor) (work.Attach run)
+      (λ its its_is. rw (← same_attach its_is) (search (none_read, arith))) idle disk leaves.1
+      (none_there no_commit) (λ asked is. tt)
+      (rw (with_same runs.contents actor, same_calls) (subst (Stands (setting_now runs) runs.last runs.begun
+      (map_of world.handed world.opening before.items) runs.contents (calls_under_way clients) runs.commit)
+      (λ i. at_disk (sym begins.rest i) (sym disk i))
+      (attaching_stands old (Some actor) before.state.disk takes.is runs.stands))))
     where
       under : UnderWay
       under = record { at = length before.items; work = work.Attach run }
@@ -39,31 +46,14 @@ module _ {script : Script} {actor : ℕ} {before after : Station} {clients news 
       under_is : after.client.under_way ≡ Some under
       under_is = cc
 
-      begun_is : after.client.begun ≡ before.client.begun + 1
-      begun_is = cc
-
-      number : before.client.begun + 1 - 1 ≡ before.client.begun
-      number = omega arith
+      number : after.client.begun - 1 ≡ before.client.begun
+      number = omega (arith, ap (λ (c : Client). c.begun) leaves.1)
 
       no_commit : attach_commit run ≡ None
       no_commit = cc
 
       same_calls : calls_under_way news ≡ calls_under_way clients
       same_calls = calls_stay takes.was takes.changes (cc) (cc)
-
-      are : AreCallsOf now (calls_under_way news)
-      are = subst (AreCallsOf now) (sym same_calls)
-          (rw begins.rest (attaching_calls old (Some actor) (calls_under_way clients) takes.schedule.going.are))
-
-      on : RunsOn script before after clients news before.items
-      on world past handed within listed runs =
-          runs_begins after.state takes.was takes.changes runs (runs.contents actor) (work.Attach run)
-          (λ its its_is. rw (← same_attach its_is) (search (none_read, arith))) idle disk leaves.1
-          (none_there no_commit) (λ asked is. tt)
-          (rw (with_same runs.contents actor, same_calls) (subst (Stands (setting_now runs) runs.last runs.begun
-          (map_of world.handed world.opening before.items) runs.contents (calls_under_way clients) runs.commit)
-          (λ i. at_disk (sym begins.rest i) (sym disk i))
-          (attaching_stands old (Some actor) before.state.disk takes.is runs.stands)))
 
   -- An attach waits for another, or for a commit.
   pub attach_waits : {by : ℕ} → BeginsAttach old now before.state.disk.devices actor (Busy by)

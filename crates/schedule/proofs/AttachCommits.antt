@@ -1,5 +1,5 @@
 -- What the turns of an attach come to that make its commit, while the group stays as it was begun.
-use Rattle.schedule.proofs.Words.{◌≡◌, held_under, inr, ℕ, ◌-◌, List, Option, Some, refl, ◌∙◌, ap, subst, slice_get, IsWithin, Stage, Lays, CommitRun, map_of, AwaitsAttach, World, WhyDropped, JoinRun, ScriptCall, Script, calls_of, AttachRun, Joins, Signs, More, HoldsAttach, IsAttachRunOf, OnlyGoOut, StepsJoin, attach_commit, IsCommitOf, StepsCommit, Core, HasTooManyOut, Stands, shown_in, join_drops_since, join_drops_stands, join_goes_since, join_goes_stands, few_out, commit_steps_since, commit_steps_stands, Client, UnderWay, Comes, TakesTurn, Past, HasBegun, HasBegunIn, Runs, calls_under_way, setting_now, LeavesGoing, Station, WorkGoesOn}
+use Rattle.schedule.proofs.Words.{◌≡◌, ℕ, AreCallsOf, begun_at, length, held_under, inr, ℕ, ◌-◌, List, Option, Some, refl, ◌∙◌, ap, subst, slice_get, IsWithin, Stage, Lays, CommitRun, map_of, AwaitsAttach, World, WhyDropped, JoinRun, ScriptCall, Script, calls_of, AttachRun, Joins, Signs, More, HoldsAttach, IsAttachRunOf, OnlyGoOut, StepsJoin, attach_commit, IsCommitOf, StepsCommit, Core, HasTooManyOut, Stands, shown_in, join_drops_since, join_drops_stands, join_goes_since, join_goes_stands, few_out, commit_steps_since, commit_steps_stands, Client, UnderWay, Comes, TakesTurn, Past, HasBegun, HasBegunIn, Runs, calls_under_way, setting_now, LeavesGoing, Station, WorkGoesOn}
 use Rattle.core_commit.specs.declared.commit_run.Stage.TheVariants.{Signs as Signing}
 use Rattle.join_commit.specs.declared.join_run.JoinStep.TheVariants as step
 use Rattle.core_turns.proofs.Frames.{calls_stay as core_calls}
@@ -8,8 +8,8 @@ use Rattle.schedule.proofs.Going.{attach_commits}
 use Rattle.schedule.proofs.Recording.{GoesOnSince, HalvesGoOn, recorded_goes}
 use Rattle.schedule.proofs.RunsGoOn.{commit_runs, only_known}
 use Rattle.schedule.proofs.Syncs.{halves_go}
-use Rattle.schedule.proofs.Theirs.{same_attach}
-use Rattle.schedule.proofs.TurnComes.{GoesFrom, alone, attach_calls, attach_on, comes_further, halves_recorded, its_asked, its_attach, its_commit, its_going, its_known, its_stands, only}
+use Rattle.schedule.proofs.Theirs.{OnlyIt, same_attach}
+use Rattle.schedule.proofs.TurnComes.{GoesFrom, RunsOn, alone, attach_calls, attach_on, comes_further, halves_recorded, its_asked, its_attach, its_commit, its_going, its_known, its_stands, only}
 
 -- The first half may go on, or the second one begin.
 pub from_first : (to : Stage) → HalvesGoOn Lays to
@@ -17,65 +17,72 @@ from_first Lays = tt
 from_first Signing = tt
 
 module _ {script : Script} {actor : ℕ} {before after : Station} {clients news : List Client} {call : ScriptCall}
-    {under : UnderWay} {run : AttachRun} {commit : CommitRun}
-    (from : GoesFrom script actor before after clients news call under (work.Attach run))
-    (makes : attach_commit run ≡ Some commit) where
+    {under : UnderWay} {run : AttachRun}
+    (from : GoesFrom script actor before after clients news call under (work.Attach run)) where
   open from use {takes, does_is, under_is, is}
+  open before.state use {core as old}
+  open after.state use {core as now}
 
-  abbrev old : Core
-  old = before.state.core
-
-  abbrev now : Core
-  now = after.state.core
-
-  -- The group begun is the attach's.
-  pub its_group : {world : World} {past : Past} (runs : Runs world script past before.state before.items clients)
-      → HasBegun world before.items runs.item runs.begun under.at (AwaitsAttach world.calls before.items under.at)
-  its_group {world = world} runs = subst (HasBegunIn world before.items runs.item runs.begun under.at) makes
-      (rw does_is at (runs.each actor before.client under (its_going from)).group)
-
-  -- what has to stand after a turn in which the commit goes on to this one
-  abbrev StandsOn : (next : AttachRun) (made : CommitRun) (world : World) (past : Past)
-      → Runs world script past before.state before.items clients → Type 0
-  StandsOn next made world past runs = HalvesGoOn commit.stage made.stage
-      × GoesOnSince (setting_now runs) runs.last (shown_in runs.begun made.stage) before.state.disk after.state.disk
-      × HoldsAttach (setting_now runs) runs.last runs.begun after.state.disk next
-      × Stands (setting_now runs) runs.last runs.begun (map_of world.handed world.opening before.items) runs.contents
-      (calls_under_way clients) (Some made) after.state
-
-  -- The commit goes on.
-  attach_steps : WorkGoesOn (work.Attach run) before.state after.state → (next : AttachRun) (made : CommitRun)
-      → attach_commit next ≡ Some made
-      → (HasTooManyOut old → ⊥) → now ≡ record old { pool = record old.pool { out = now.pool.out } }
-      → IsAttachRunOf now next → IsCommitOf now made
-      → ((world : World) (past : Past) (runs : Runs world script past before.state before.items clients)
-      → IsWithin old.pool.out world.setting.failed → StandsOn next made world past runs)
-      → LeavesGoing actor call before after under (More (work.Attach next))
-      → Comes script actor before after clients news
-  attach_steps goes next made next_makes few core of of_commit stands further = comes_further from (work.Attach next)
-      (attach_on from goes) further refl (attach_commits takes.was takes.changes takes.schedule.going
-      (search (same, core_calls)) (alone from) (only from makes) refl of
-      (ap (λ (c : Core). c.attaching) core ∙ (its_attach from).1) next_is next_makes tt
+  -- It makes this commit by now, and holds no sectors still.
+  pub attach_makes : {at : ℕ} (next : AttachRun) {made : CommitRun}
+      → WorkGoesOn (work.Attach run) before.state after.state
+      → OnlyIt clients actor → attach_commit next ≡ Some made
+      → begun_at (Some made) (attach_commit run) under.at (length before.items) ≡ at
+      → LeavesGoing actor call before after under (More (work.Attach next)) → AreCallsOf now (calls_under_way clients)
+      → IsAttachRunOf now next → IsCommitOf now made → now.attaching ≡ old.attaching → now.committing ≡ Some actor
+      → (calls_under_way news ≡ calls_under_way clients → after.client ≡ record {
+        begun = before.client.begun;
+        under_way = Some (record { at = at; work = work.Attach next });
+      } → RunsOn script before after clients news before.items) → Comes script actor before after clients news
+  attach_makes {at} next goes only_it makes at_is further are of of_commit attaching committing runs =
+      comes_further from (work.Attach next) (attach_on from goes) further refl
+      (attach_commits takes.was takes.changes takes.schedule.going (rw same are) (alone from) only_it refl of
+      (attaching ∙ (its_attach from).1) next_is makes tt
       (ap (λ (c : Client). slice_get (calls_of script actor) (c.begun - 1)) further.1 ∙ is) (its_asked from) of_commit
-      (ap (λ (c : Core). c.committing) core ∙ (its_commit from makes).1))
-      (λ world past handed within listed runs.
-      let stood = stands world past runs (within (few_out old few)) in
-      commit_runs after.state takes.was takes.changes runs runs.reach made
-      (recorded_goes (halves_recorded from makes runs (its_group runs) (λ awaits. awaits) made.stage stood.0)
-      goes.0.later stood.1) next_makes client_is (inr (under, under_is, refl)) (rw next_makes (its_group runs))
-      (λ asked. tt) (λ its its_is. rw (← same_attach its_is) stood.2)
-      (only_known after.state takes.was takes.changes runs runs.reach runs.begun (only from makes) (alone from))
-      (rw same stood.3))
+      committing) (runs same client_is)
     where
       client_is : after.client
-          ≡ record { begun = before.client.begun; under_way = Some (record { at = under.at; work = work.Attach next }) }
+          ≡ record { begun = before.client.begun; under_way = Some (record { at = at; work = work.Attach next }) }
       client_is = cc
 
-      next_is : after.client.under_way ≡ Some (record { at = under.at; work = work.Attach next })
+      next_is : after.client.under_way ≡ Some (record { at = at; work = work.Attach next })
       next_is = cc
 
       same : calls_under_way news ≡ calls_under_way clients
       same = attach_calls from (ap held_under next_is)
+
+  module _ {commit : CommitRun} (makes : attach_commit run ≡ Some commit) where
+    -- The group begun is the attach's.
+    pub its_group : {world : World} {past : Past} (runs : Runs world script past before.state before.items clients)
+        → HasBegun world before.items runs.item runs.begun under.at (AwaitsAttach world.calls before.items under.at)
+    its_group {world = world} runs = subst (HasBegunIn world before.items runs.item runs.begun under.at) makes
+        (rw does_is at (runs.each actor before.client under (its_going from)).group)
+
+    -- The commit goes on to this one, with which this stands.
+    attach_steps : WorkGoesOn (work.Attach run) before.state after.state → (next : AttachRun) (made : CommitRun)
+        → attach_commit next ≡ Some made → (HasTooManyOut old → ⊥)
+        → now ≡ record old { pool = record old.pool { out = now.pool.out } } → IsAttachRunOf now next
+        → IsCommitOf now made
+        → ((world : World) (past : Past) (runs : Runs world script past before.state before.items clients)
+        → IsWithin old.pool.out world.setting.failed → HalvesGoOn commit.stage made.stage
+        × GoesOnSince (setting_now runs) runs.last (shown_in runs.begun made.stage) before.state.disk after.state.disk
+        × HoldsAttach (setting_now runs) runs.last runs.begun after.state.disk next
+        × Stands (setting_now runs) runs.last runs.begun (map_of world.handed world.opening before.items) runs.contents
+        (calls_under_way clients) (Some made) after.state)
+        → LeavesGoing actor call before after under (More (work.Attach next))
+        → Comes script actor before after clients news
+    attach_steps goes next made next_makes few core of of_commit stands further = attach_makes next goes
+        (only from makes)
+        next_makes (cc) further (search core_calls) of of_commit (ap (λ (c : Core). c.attaching) core)
+        (ap (λ (c : Core). c.committing) core ∙ (its_commit from makes).1)
+        (λ same client_is world past handed within listed runs.
+        let stood = stands world past runs (within (few_out old few)) in
+        commit_runs after.state takes.was takes.changes runs runs.reach made
+        (recorded_goes (halves_recorded from makes runs (its_group runs) (λ awaits. awaits) made.stage stood.0)
+        goes.0.later stood.1) next_makes client_is (inr (under, under_is, refl)) (rw next_makes (its_group runs))
+        (λ asked. tt) (λ its its_is. rw (← same_attach its_is) stood.2)
+        (only_known after.state takes.was takes.changes runs runs.reach runs.begun (only from makes) (alone from))
+        (rw same stood.3))
 
 -- ---- turn by turn
 

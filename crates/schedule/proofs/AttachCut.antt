@@ -1,5 +1,5 @@
 -- What a turn of an attach comes to in which its commit is cut short, among the other clients' calls.
-use Rattle.schedule.proofs.Words.{◌≡◌, ap, held_under, ℕ, ◌-◌, List, Some, None, refl, sym, subst, slice_get, CommitRun, Answer, ScriptCall, Script, calls_of, AttachRun, Done, IsTooMany, StopsAttach, attach_commit, Core, at_disk, HasTooManyOut, AreCallsOf, attaching_calls, attaching_stands, look_stands, since_read, Client, UnderWay, Comes, TakesTurn, calls_under_way, setting_now, LeavesGoing, Station, WorkGoesOn}
+use Rattle.schedule.proofs.Words.{◌≡◌, ap, held_under, ℕ, ◌-◌, List, Some, None, refl, sym, subst, slice_get, CommitRun, Answer, ScriptCall, Script, calls_of, AttachRun, Done, IsTooMany, StopsAttach, attach_commit, at_disk, HasTooManyOut, AreCallsOf, attaching_calls, attaching_stands, look_stands, since_read, Client, UnderWay, Comes, TakesTurn, calls_under_way, setting_now, LeavesGoing, Station, WorkGoesOn}
 use Rattle.core_state.specs.declared.answer.Answer.TheVariants as answer
 use Rattle.core_state.specs.declared.answer.Kind.TheVariants as kind
 use Rattle.core_turns.proofs.CommitStands.{commit_is_cut as cut_stands}
@@ -20,11 +20,8 @@ module _ {script : Script} {actor : ℕ} {before after : Station} {clients news 
     (is : slice_get (calls_of script actor) (before.client.begun - 1) ≡ Some call)
     (goes : WorkGoesOn (work.Attach run) before.state after.state)
     (stops : StopsAttach before.state after.state) where
-  abbrev old : Core
-  old = before.state.core
-
-  abbrev now : Core
-  now = after.state.core
+  open before.state use {core as old}
+  open after.state use {core as now}
 
   abbrev from : GoesFrom script actor before after clients news call under (work.Attach run)
   from = record { takes = takes; does_is = does_is; under_is = under_is; is = is }

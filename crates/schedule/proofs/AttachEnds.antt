@@ -1,5 +1,5 @@
 -- What the last turn of an attach comes to that answers its group, among the other clients' calls.
-use Rattle.schedule.proofs.Words.{◌≡◌, Turns, held_under, inl, inr, ℕ, ◌+◌, ◌-◌, List, [], ◌∷◌, ◌++◌, length, Option, Some, None, refl, sym, ◌∙◌, ap, subst, arith, append_assoc, slice_get, IsWithin, Uber, CommitRun, Answer, Entry, Item, Group, IsAttachOf, IsWidthStep, Kept, Map, map_of, AwaitsAttach, item_of, World, last_there, width_step_where, WhyDropped, ScriptCall, Script, calls_of, Signs, Done, EndsAttach, IsAttachRunOf, IsMadeAt, attach_answer, Core, IsCore, AreCallsOf, Stands, attach_ends_stands, attaching_calls, commit_ends_calls, few_out, Client, UnderWay, Comes, TakesTurn, HasDropCause, IsDeviceCause, Past, IsBegunAt, IsRightNext, IsClient, Runs, calls_under_way, setting_now, LeavesGoing, Station, WorkGoesOn, group_for, IsListedWith, turns_of}
+use Rattle.schedule.proofs.Words.{◌≡◌, held_under, inl, inr, ℕ, ◌+◌, ◌-◌, List, [], ◌∷◌, ◌++◌, length, Option, Some, None, refl, sym, ◌∙◌, ap, subst, arith, append_assoc, slice_get, IsWithin, Uber, CommitRun, Answer, Entry, Item, Group, IsAttachOf, IsWidthStep, Kept, Map, map_of, AwaitsAttach, item_of, World, last_there, width_step_where, WhyDropped, ScriptCall, Script, calls_of, Signs, Done, EndsAttach, IsAttachRunOf, IsMadeAt, attach_answer, IsCore, AreCallsOf, Stands, attach_ends_stands, attaching_calls, commit_ends_calls, few_out, Client, UnderWay, Comes, TakesTurn, IsDeviceCause, Past, IsBegunAt, IsRightNext, Runs, calls_under_way, setting_now, LeavesGoing, Station, WorkGoesOn, group_for, IsListedWith}
 use Rattle.core_state.specs.declared.answer.Answer.TheVariants as answer
 use Rattle.core_state.specs.declared.answer.Kind.TheVariants as kind
 use Rattle.core_state.specs.declared.item.Group.{Group as GroupItem}
@@ -16,7 +16,7 @@ use Rattle.schedule.proofs.Refusals.{refusal_right}
 use Rattle.schedule.proofs.RightNext.{attached_right}
 use Rattle.schedule.proofs.Running.{head_is}
 use Rattle.schedule.proofs.RunsEnd.{commit_ends}
-use Rattle.schedule.proofs.TurnComes.{GoesFrom, alone, attach_calls, attach_on, comes, idle_now, its_answered, its_asked, its_attach, its_going, its_stands, last_entry, only, whole_recorded}
+use Rattle.schedule.proofs.TurnComes.{Dropped, GoesFrom, alone, attach_calls, attach_on, comes, idle_now, its_answered, its_asked, its_attach, its_going, its_stands, last_entry, only, turns_left, turns_was, whole_recorded}
 use Rattle.schedule.proofs.UsingWorks.{group_listed}
 
 -- A group of the width before it has its widths, or ends an expansion, and needs no attach for that.
@@ -34,11 +34,8 @@ module _ {script : Script} {actor : ℕ} {before after : Station} {clients news 
     (goes : WorkGoesOn (work.Attach (Signs run because)) before.state after.state) (still : IsCore after.state.core)
     {given : Answer} (ends : EndsAttach before.state run because after.state given)
     (leaves : LeavesGoing actor call before after under (Done given)) where
-  abbrev old : Core
-  old = before.state.core
-
-  abbrev now : Core
-  now = after.state.core
+  open before.state use {core as old}
+  open after.state use {core as now}
 
   abbrev from : GoesFrom script actor before after clients news call under (work.Attach (Signs run because))
   from = record { takes = takes; does_is = does_is; under_is = under_is; is = is }
@@ -78,9 +75,6 @@ module _ {script : Script} {actor : ℕ} {before after : Station} {clients news 
 
   disk : after.state.disk ≡ before.state.disk
   disk = search arith
-
-  none_commits : now.committing ≡ None
-  none_commits = cc
 
   are : AreCallsOf now (calls_under_way news)
   are = subst (AreCallsOf now) (sym same)
@@ -125,26 +119,19 @@ module _ {script : Script} {actor : ℕ} {before after : Station} {clients news 
     abbrev Awaited : Type 0
     Awaited = AwaitsAttach world.calls before.items under.at
 
-    abbrev Told : Type 0
-    Told = IsAttachOf with_both (runs.item.from + 1) group.group
-
-    abbrev StepWhere : Type 0 → Type 0
-    StepWhere attached = IsWidthStep attached runs.item (item_of next under.at)
-
     -- The group was begun where an attach was to be answered.
     begun_is : IsBegunAt world before.items runs.item under.at Awaited next
     begun_is =
         let begun = its_group from refl runs in
         rw (← head_is (sym begun.1 ∙ stands.groups.begun_is)) begun.2
 
-    its : IsClient world script before.items runs.item runs.begun (runs.contents actor) actor before.client under
-    its = runs.each actor before.client under (its_going from)
-
     -- Where the answer tells of a wider pool it names the group, and else the group has the widths before it.
     closes : (why : Option WhyDropped) → IsMadeAt old.pool.uber.reflow why run.uber.reflow
         → given ≡ attach_answer why now.pool.uber.reflow.to old.begun
-        → (StepWhere Awaited → StepWhere Told) × IsRightNext world with_group entry after.state.disk
-    closes None made given_is = (
+        → (IsWidthStep Awaited runs.item (item_of next under.at)
+        → IsWidthStep (IsAttachOf with_both (runs.item.from + 1) group.group) runs.item (item_of next under.at))
+        × IsRightNext world with_group entry after.state.disk
+    closes None made given_is = let its = runs.each actor before.client under (its_going from) in (
       width_step_where runs.item (item_of next under.at) (λ awaits. (
         length with_group,
         entry,
@@ -183,19 +170,14 @@ module _ {script : Script} {actor : ℕ} {before after : Station} {clients news 
 
   -- ---- what it comes to
 
-  abbrev was : Turns
-  was = turns_of before.state before.items clients
-
-  abbrev left : Turns
-  left = turns_of after.state after.items news
-
   pub attach_ends : Comes script actor before after clients news
   attach_ends = comes takes (Group group ∷ CallItem entry ∷ []) (search append_assoc) (attach_on from goes) listed
-      (fit_both was left entry
+      (fit_both (turns_was takes) (turns_left takes) entry
       (attach_fits asked.0 (end_answers given ended) (search (ended, arith)) (search (ended, arith))
-      (subst (IsDeviceCause before.state.disk.devices (HasDropCause was left)) (sym ends.given_is)
-      (end_cause before.state.disk.devices (HasDropCause was left) because now.pool.uber.reflow.to old.begun
+      (subst (IsDeviceCause before.state.disk.devices (Dropped takes)) (sym ends.given_is)
+      (end_cause before.state.disk.devices (Dropped takes) because now.pool.uber.reflow.to old.begun
       (search (its_going, arith))))) goes.0.out.still group listed) (search (ends_with, few_out, arith))
-      (full_synced script was left group entry listed (λ full. subst IsAttachEnd full ended))
+      (full_synced script (turns_was takes) (turns_left takes) group entry listed
+      (λ full. subst IsAttachEnd full ended))
       (going_ends takes.was takes.changes takes.schedule.going are (alone from) (cc) idle (only from refl)
       (λ its is_committing. cc)) (its_answered from given leaves (answers_group group takes.schedule.answered))

@@ -1,11 +1,10 @@
 -- What the turns of an attach come to that make no commit, among the other clients' calls: the reads of the new device,
 -- and an attach that ends with them.
-use Rattle.schedule.proofs.Words.{◌≡◌, MakesCommit, ◌≢◌, inl, ℕ, ◌-◌, List, Some, None, refl, sym, ◌∙◌, ap, subst, slice_get, Disk, Lawful, Unchanged, later_refl, Uber, max_group, ReadsSlot, RingRead, one_more_read, IsOnInUse, read_touches, unchanged_none, Answer, Entry, Item, IsAnswerOf, Map, PutBytes, map_after_answer, map_of, World, WhyDropped, ScriptCall, Script, calls_of, AttachRun, Reads, Checked, Signs, More, Done, AttachGoesOn, FindsFree, HoldsAttach, IsAttachRunOf, IsDeviceRefused, ReadsNext, StopsAttach, WaitsForCommit, attach_commit, IsSyncRefused, Core, CoreState, HasBankOf, IsCore, at_disk, HasTooManyOut, AreCallsOf, Stands, attaching_calls, attaching_stands, look_stands, attaching_commit, rests, since_read, Client, UnderWay, Comes, TakesTurn, HasDropCause, IsDeviceCause, IsGroupKind, Past, IsRightNext, AreGoing, Runs, calls_under_way, commit_in, held_under, setting_now, turns_of, made_by, LeavesGoing, Station, WorkGoesOn, entry_for}
+use Rattle.schedule.proofs.Words.{◌≡◌, MakesCommit, ◌≢◌, inl, ℕ, ◌-◌, List, Some, None, refl, sym, ◌∙◌, ap, subst, slice_get, Disk, Lawful, Unchanged, later_refl, Uber, ReadsSlot, RingRead, one_more_read, IsOnInUse, read_touches, unchanged_none, Answer, Entry, Item, Map, PutBytes, map_after_answer, map_of, World, ScriptCall, Script, calls_of, AttachRun, Reads, Checked, Signs, More, Done, AttachGoesOn, FindsFree, HoldsAttach, IsAttachRunOf, IsDeviceRefused, ReadsNext, StopsAttach, WaitsForCommit, attach_commit, IsSyncRefused, Core, CoreState, HasBankOf, IsCore, at_disk, HasTooManyOut, AreCallsOf, Stands, attaching_calls, attaching_stands, look_stands, attaching_commit, rests, since_read, Client, UnderWay, Comes, TakesTurn, IsGroupKind, Past, IsRightNext, AreGoing, Runs, calls_under_way, commit_in, held_under, setting_now, made_by, LeavesGoing, Station, WorkGoesOn, entry_for}
 use Rattle.core_state.specs.declared.answer.Answer.TheVariants as answer
-use Rattle.core_state.specs.declared.answer.Kind.TheVariants as kind
 use Rattle.schedule.specs.declared.client.Work.TheVariants as work
 use Rattle.schedule.proofs.AttachUses.{refused_plain, sync_plain}
-use Rattle.schedule.proofs.Fitting.{TellsOut, attach_fits}
+use Rattle.schedule.proofs.Fitting.{attach_fits}
 use Rattle.schedule.proofs.Going.{attach_goes as going_goes, attach_stops as going_stops}
 use Rattle.schedule.proofs.LeavesPool.{same_keeps}
 use Rattle.schedule.proofs.Recording.{recorded_goes}
@@ -16,7 +15,7 @@ use Rattle.schedule.proofs.Syncs.{refused_answers as sync_answers, refused_map a
 use Rattle.schedule.proofs.Theirs.{none_there, same_attach, work_no_commit}
 use Rattle.schedule.proofs.UsingEnds.{EndsPlainly}
 use Rattle.schedule.proofs.UsingWorks.{plain_listed}
-use Rattle.schedule.proofs.TurnComes.{GoesFrom, attach_calls, attach_on, comes_further, comes_last, idle_now, its_asked, its_attach, its_known, last_entry}
+use Rattle.schedule.proofs.TurnComes.{Dropped, FitsNow, GoesFrom, ItComes, OfRuns, attach_calls, attach_on, comes_further, comes_last, idle_now, its_asked, its_attach, its_known, last_entry}
 
 -- A device was read: all stands that stood.
 abbrev pub looked : {world : World} {script : Script} {past : Past} {before : CoreState} {items : List Item}
@@ -49,12 +48,8 @@ module _ {script : Script} {actor : ℕ} {before after : Station} {clients news 
     (from : GoesFrom script actor before after clients news call under (work.Attach run))
     (goes : WorkGoesOn (work.Attach run) before.state after.state) (none : attach_commit run ≡ None) where
   open from use {takes, does_is, under_is, is}
-
-  abbrev old : Core
-  old = before.state.core
-
-  abbrev now : Core
-  now = after.state.core
+  open before.state use {core as old}
+  open after.state use {core as now}
 
   no_commit : MakesCommit under.work → ⊥
   no_commit = none_there (ap commit_in does_is ∙ none)
@@ -104,26 +99,16 @@ module _ {script : Script} {actor : ℕ} {before after : Station} {clients news 
       are : AreCallsOf now (calls_under_way news)
       are = rw (core, same) takes.schedule.going.are
 
-  -- what an answer is with which it ends before its commit
-  pub record EndsEarly (given : Answer) : Type 0 where
-    pub answers : IsAnswerOf kind.Attach given
-    pub tells : TellsOut old given
-    pub limit : (reached : ℕ) → given ≡ answer.Limit reached → reached ≡ max_group
-    pub cause : IsDeviceCause before.state.disk.devices
-        (HasDropCause (turns_of before.state before.items clients) (turns_of after.state after.items news)) given
-    pub no_full : given ≢ answer.Full
-    pub no_block : (handed : PutBytes) (map : Map) (entry : Entry) → map_after_answer handed map entry given ≡ map
-    pub right : (world : World) (past : Past) → Runs world script past before.state before.items clients
-        → IsRightNext world before.items (entry_for call actor before.client.begun under.at given) after.state.disk
-
   -- It ends, and no device is attached.
-  pub attach_stops : (given : Answer) → EndsEarly given → StopsAttach before.state after.state
-      → EndsPlainly given None → LeavesGoing actor call before after under (Done given)
-      → Comes script actor before after clients news
-  attach_stops given early stops plain leaves = comes_last from given leaves (attach_on from goes)
+  pub attach_stops : (given : Answer) → FitsNow takes call.kind given → given ≢ answer.Full
+      → ((handed : PutBytes) (map : Map) (entry : Entry) → map_after_answer handed map entry given ≡ map)
+      → OfRuns takes (λ world past runs. IsRightNext world before.items
+      (entry_for call actor before.client.begun under.at given) after.state.disk)
+      → StopsAttach before.state after.state → EndsPlainly given None
+      → LeavesGoing actor call before after under (Done given) → Comes script actor before after clients news
+  attach_stops given fits no_full no_block right stops plain leaves = comes_last from given leaves (attach_on from goes)
       (leaves.0 ∙ plain_listed now before.items under.at entry
-      (rw (← ap made_by does_is ∙ made_none run none) at plain))
-      (attach_fits (its_asked from).0 early.answers early.tells early.limit early.cause) early.no_full
+      (rw (← ap made_by does_is ∙ made_none run none) at plain)) fits no_full
       (going_stops takes.was takes.changes takes.schedule.going are (its_attach from).1 (cc) (cc)
       (λ commit of. rw stops.core (attaching_commit old None of))
       (λ many. subst HasTooManyOut (sym stops.core) many) (work_no_commit under_is no_commit) idle)
@@ -131,8 +116,8 @@ module _ {script : Script} {actor : ℕ} {before after : Station} {clients news 
       let runs = looked after.state.disk takes.schedule.going takes.is takes.still_lawful stops.unchanged was in
       let map : Map = map_of world.handed world.opening before.items in
       runs_answer after.state takes.was takes.changes runs runs.commit runs.recorded refl idle refl
-      (early.right world past was) answers with runs.theirs (work_no_commit under_is no_commit)
-      (rw (early.no_block world.handed map entry)
+      (right world past was) fits.of_kind with runs.theirs (work_no_commit under_is no_commit)
+      (rw (no_block world.handed map entry)
       (subst (λ (s : CoreState). Stands (setting_now runs) runs.last runs.begun map runs.contents (calls_under_way news)
       runs.commit s)
       (λ i. at_disk (sym stops.core i) after.state.disk)
@@ -140,9 +125,6 @@ module _ {script : Script} {actor : ℕ} {before after : Station} {clients news 
     where
       entry : Entry
       entry = last_entry from given leaves
-
-      answers : IsAnswerOf call.kind given
-      answers = rw (its_asked from).0 early.answers
 
       idle : after.client.under_way ≡ None
       idle = idle_now from given leaves
@@ -171,12 +153,6 @@ module _ {script : Script} {actor : ℕ} {before after : Station} {clients news 
     (is : slice_get (calls_of script actor) (before.client.begun - 1) ≡ Some call)
     (goes : (AttachGoesOn before.state after.state)
     × (HasBankOf before.state.core before.state.disk → HasBankOf after.state.core after.state.disk)) where
-  abbrev dropped : WhyDropped → Type 0
-  dropped = HasDropCause (turns_of before.state before.items clients) (turns_of after.state after.items news)
-
-  abbrev TurnComes : Type 0
-  TurnComes = Comes script actor before after clients news
-
   abbrev from : {run : AttachRun} → under.work ≡ work.Attach run
       → GoesFrom script actor before after clients news call under (work.Attach run)
   from does_is = record { takes = takes; does_is = does_is; under_is = under_is; is = is }
@@ -184,7 +160,7 @@ module _ {script : Script} {actor : ℕ} {before after : Station} {clients news 
   -- One more slot of the ring is read,
   pub reads_next : (next : RingRead) → under.work ≡ work.Attach (Reads ring)
       → ReadsNext before.state ring after.state next → IsAttachRunOf after.state.core (Reads next)
-      → LeavesGoing actor call before after under (More (work.Attach (Reads next))) → TurnComes
+      → LeavesGoing actor call before after under (More (work.Attach (Reads next))) → ItComes takes
   reads_next next does_is did of leaves = attach_looks (from does_is) goes refl (Reads next) did.core did.unchanged refl
       of (λ world past runs. one_more_read after.state.disk ring next (reads_still ring did.unchanged did.reads)
       (its_known (from does_is) runs)) leaves
@@ -192,14 +168,14 @@ module _ {script : Script} {actor : ℕ} {before after : Station} {clients news 
   -- it is found free,
   pub finds_free : (next : RingRead) → under.work ≡ work.Attach (Reads ring)
       → FindsFree before.state ring after.state next → IsAttachRunOf after.state.core (Checked next)
-      → LeavesGoing actor call before after under (More (work.Attach (Checked next))) → TurnComes
+      → LeavesGoing actor call before after under (More (work.Attach (Checked next))) → ItComes takes
   finds_free next does_is did of leaves = attach_looks (from does_is) goes refl (Checked next) did.core did.unchanged
       refl of (λ world past runs. rw did.same (its_known (from does_is) runs)) leaves
 
   -- or the attach waits for another's commit.
   pub waits_on : (next : RingRead) → under.work ≡ work.Attach (Checked ring)
       → WaitsForCommit before.state ring after.state next → IsAttachRunOf after.state.core (Checked next)
-      → LeavesGoing actor call before after under (More (work.Attach (Checked next))) → TurnComes
+      → LeavesGoing actor call before after under (More (work.Attach (Checked next))) → ItComes takes
   waits_on next does_is did of leaves = attach_looks (from does_is) goes refl (Checked next) (cc)
       (rw (ap (λ (s : CoreState). s.disk) did.state) (unchanged_none before.state.disk)) refl of
       (λ world past runs. rw did.same (its_known (from does_is) runs)) leaves
@@ -207,22 +183,20 @@ module _ {script : Script} {actor : ℕ} {before after : Station} {clients news 
   -- It ends without a device: that one is not to be had,
   pub device_refused : (given : Answer) → under.work ≡ work.Attach (Reads ring)
       → StopsAttach before.state after.state → IsDeviceRefused before.state ring after.state given
-      → LeavesGoing actor call before after under (Done given) → TurnComes
-  device_refused given does_is stops refused leaves = attach_stops (from does_is) goes refl given (record {
-    answers = refusal_answers given refusal;
-    tells = device_tells before.state ring after.state given refused;
-    limit = λ reached told. absurd (subst IsRefusal told refusal);
-    cause = device_cause before.state.disk.devices dropped before.state ring after.state given refused
-        (λ device rose. inl rose);
-    no_full = λ full. subst IsRefusal full refusal;
-    no_block = λ handed map entry. refusal_map handed map entry given refusal;
-    right = λ world past runs. refusal_right (its_asked (from does_is)).0 refusal
-        (device_caused before.state ring after.state given runs.recorded.latest
-        (its_attach (from does_is)).0.behind
-        (ap (λ (u : Uber). u.reflow.to) runs.stands.alike ∙ runs.recorded.item_is.widths.1)
-        (its_known (from does_is)
-        (looked after.state.disk takes.schedule.going takes.is takes.still_lawful stops.unchanged runs)) refused);
-  }) stops (search refused_plain) leaves
+      → LeavesGoing actor call before after under (Done given) → ItComes takes
+  device_refused given does_is stops refused leaves =
+      let asked = (its_asked (from does_is)).0 in
+      attach_stops (from does_is) goes refl given
+      (attach_fits asked (refusal_answers given refusal) (device_tells before.state ring after.state given refused)
+      (λ reached told. absurd (subst IsRefusal told refusal)) (device_cause before.state.disk.devices (Dropped takes)
+      before.state ring after.state given refused (λ device rose. inl rose)))
+      (λ full. subst IsRefusal full refusal) (λ handed map entry. refusal_map handed map entry given refusal)
+      (λ world past runs. refusal_right asked refusal
+      (device_caused before.state ring after.state given runs.recorded.latest (its_attach (from does_is)).0.behind
+      (ap (λ (u : Uber). u.reflow.to) runs.stands.alike ∙ runs.recorded.item_is.widths.1)
+      (its_known (from does_is)
+      (looked after.state.disk takes.schedule.going takes.is takes.still_lawful stops.unchanged runs)) refused))
+      stops (search refused_plain) leaves
     where
       refusal : IsRefusal given
       refusal = search device_refusal
@@ -230,16 +204,14 @@ module _ {script : Script} {actor : ℕ} {before after : Station} {clients news 
   -- or its commit is not begun, as that of a sync.
   pub commit_refused : (given : Answer) → under.work ≡ work.Attach (Checked ring)
       → StopsAttach before.state after.state → IsSyncRefused before.state.core given
-      → LeavesGoing actor call before after under (Done given) → TurnComes
-  commit_refused given does_is stops refused leaves = attach_stops (from does_is) goes refl given (record {
-    answers = search sync_answers;
-    tells = sync_tells before.state.core given refused;
-    limit = λ reached told. (rw told at refused).2;
-    cause = search sync_cause;
-    no_full = λ full. rw full at refused;
-    no_block = λ handed map entry. search (sync_map, entry);
-    right = λ world past runs. sync_refused_right world before.state.core given
-        (subst IsGroupKind (sym (its_asked (from does_is)).0) tt) refl runs.recorded.latest
-        (λ none. rests before.state.core takes.is none ∙ ap (λ (u : Uber). u.group) runs.stands.alike
-        ∙ runs.recorded.item_is.number) refused;
-  }) stops (search sync_plain) leaves
+      → LeavesGoing actor call before after under (Done given) → ItComes takes
+  commit_refused given does_is stops refused leaves =
+      let asked = (its_asked (from does_is)).0 in
+      attach_stops (from does_is) goes refl given
+      (attach_fits asked (search sync_answers) (sync_tells before.state.core given refused)
+      (λ reached told. (rw told at refused).2) (search sync_cause)) (λ full. rw full at refused)
+      (λ handed map entry. sync_map handed entry before.state.core given refused)
+      (λ world past runs. sync_refused_right world before.state.core given (subst IsGroupKind (sym asked) tt) refl
+      runs.recorded.latest (λ none. rests before.state.core takes.is none
+      ∙ ap (λ (u : Uber). u.group) runs.stands.alike ∙ runs.recorded.item_is.number) refused)
+      stops (search sync_plain) leaves

@@ -1,17 +1,16 @@
 -- What the turn of an attach comes to in which its device joins the pool, among the other clients' calls.
-use Rattle.schedule.proofs.Words.{◌≡◌, held_under, [], ◌∷◌, inr, ℕ, ◌+◌, ◌-◌, ◌<◌, List, Some, None, refl, sym, ◌∙◌, ap, subst, arith, slice_get, cases_lt, slice_get-map, Disk, Lays, CommitRun, IsWidenable, widened_kept, Asked, Kept, AwaitsAttach, World, JoinRun, ScriptCall, Script, calls_of, Joins, Signs, More, GoOutAndReach, IsAttachRunOf, StepsJoin, Core, HasBankOf, AreCallsOf, HoldingCall, join_joins_since, join_joins_stands, reaching_on, few_out, calls_beside, Client, UnderWay, answered_of, Comes, TakesTurn, IsWorldOf, Past, IsBegunAt, Runs, calls_under_way, setting_now, HasDeviceUnder, LeavesGoing, Station, WorkGoesOn}
+use Rattle.schedule.proofs.Words.{◌≡◌, [], ◌∷◌, inr, ℕ, ◌+◌, ◌-◌, ◌<◌, List, Some, None, refl, sym, ◌∙◌, ap, subst, arith, slice_get, cases_lt, slice_get-map, Disk, Lays, CommitRun, IsWidenable, widened_kept, Asked, Kept, AwaitsAttach, World, JoinRun, ScriptCall, Script, calls_of, Joins, Signs, More, GoOutAndReach, IsAttachRunOf, StepsJoin, Core, HasBankOf, AreCallsOf, HoldingCall, join_joins_since, join_joins_stands, reaching_on, few_out, calls_beside, Client, UnderWay, answered_of, Comes, TakesTurn, IsWorldOf, Past, IsBegunAt, Runs, setting_now, HasDeviceUnder, LeavesGoing, Station, WorkGoesOn}
 use Rattle.core_state.specs.declared.answer.Kind.TheVariants as kind
 use Rattle.join_commit.specs.declared.join_run.JoinStep.TheVariants as step
 use Rattle.core_turns.proofs.Frames.{calls_stay as core_calls}
 use Rattle.schedule.specs.declared.client.Work.TheVariants as work
-use Rattle.schedule.proofs.AttachCommits.{from_first, its_group}
-use Rattle.schedule.proofs.Going.{attach_commits}
+use Rattle.schedule.proofs.AttachCommits.{attach_makes, from_first, its_group}
 use Rattle.schedule.proofs.Recording.{recorded_goes, recorded_halves}
 use Rattle.schedule.proofs.Running.{head_is}
 use Rattle.schedule.proofs.RunsGoOn.{commit_runs, only_known}
 use Rattle.schedule.proofs.Syncs.{begun_parity}
 use Rattle.schedule.proofs.Theirs.{same_attach, some_is}
-use Rattle.schedule.proofs.TurnComes.{GoesFrom, alone, attach_calls, attach_on, comes_further, its_asked, its_attach, its_commit, its_known, its_recorded, its_stands, only}
+use Rattle.schedule.proofs.TurnComes.{GoesFrom, alone, its_asked, its_attach, its_commit, its_known, its_recorded, its_stands, only}
 
 asking : ScriptCall → Asked
 asking call = record { kind = call.kind; id = call.id }
@@ -55,11 +54,8 @@ module _ {script : Script} {actor : ℕ} {before after : Station} {clients news 
     (goes : WorkGoesOn (work.Attach (Joins join)) before.state after.state)
     (did : StepsJoin before.state join after.state (step.Joined made)) (core : GoOutAndReach before.state after.state)
     (of : IsAttachRunOf after.state.core (Signs made None)) where
-  abbrev old : Core
-  old = before.state.core
-
-  abbrev now : Core
-  now = after.state.core
+  open before.state use {core as old}
+  open after.state use {core as now}
 
   abbrev from : GoesFrom script actor before after clients news call under (work.Attach (Joins join))
   from = record { takes = takes; does_is = does_is; under_is = under_is; is = is }
@@ -111,13 +107,10 @@ module _ {script : Script} {actor : ℕ} {before after : Station} {clients news 
 
   pub join_joins : LeavesGoing actor call before after under (More (work.Attach (Signs made None)))
       → Comes script actor before after clients news
-  join_joins further = comes_further from (work.Attach (Signs made None)) (attach_on from goes) further refl
-      (attach_commits takes.was takes.changes takes.schedule.going
-      (search (same, core_calls, reaching_on, reaching_calls)) (alone from) (only from refl)
-      refl of (ap (λ (c : Core). c.attaching) core ∙ attach_of.1) next_is refl tt
-      (ap (λ (c : Client). slice_get (calls_of script actor) (c.begun - 1)) further.1 ∙ is) asked of.0.of
-      (ap (λ (c : Core). c.committing) core ∙ (its_commit from refl).1))
-      (λ world past of_world within listed runs.
+  join_joins further = attach_makes from (Signs made None) goes (only from refl) refl refl further
+      (search (core_calls, reaching_on, reaching_calls)) of of.0.of (ap (λ (c : Core). c.attaching) core)
+      (ap (λ (c : Core). c.committing) core ∙ (its_commit from refl).1)
+      (λ same client_is world past of_world within listed runs.
       let failed = within (few_out old did.few) in
       let stands = its_stands from refl runs in
       let known = its_known from runs in
@@ -136,15 +129,3 @@ module _ {script : Script} {actor : ℕ} {before after : Station} {clients news 
       (only_known after.state takes.was takes.changes runs reach (widened_kept next ∷ []) (only from refl) (alone from))
       (rw same (join_joins_stands join after.state takes.is attach_of.0.1 takes.schedule.going.are stands known made did
       core bank failed)))
-    where
-      client_is : after.client ≡ record {
-        begun = before.client.begun;
-        under_way = Some (record { at = under.at; work = work.Attach (Signs made None) });
-      }
-      client_is = cc
-
-      next_is : after.client.under_way ≡ Some (record { at = under.at; work = work.Attach (Signs made None) })
-      next_is = cc
-
-      same : calls_under_way news ≡ calls_under_way clients
-      same = attach_calls from (ap held_under next_is)

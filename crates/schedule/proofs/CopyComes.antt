@@ -1,5 +1,5 @@
 -- What the first turn of a copy comes to, among the other clients' calls.
-use Rattle.schedule.proofs.Words.{◌≡◌, ℕ, ◌+◌, ◌-◌, List, refl, sym, subst, arith, Some, None, slice_get, slice_get_within, Disk, Answer, map_of, CommitRun, ScriptCall, Script, calls_of, CopyRun, Copies, Commits, More, Busy, Done, Core, at_disk, BeginsJobSo, BeginsRound, Stands, rests, job_begins_calls, job_begins_stands, Comes, TakesTurn, HasDropCause, calls_under_way, setting_now, LeavesBegun, Station, turns_of, Client}
+use Rattle.schedule.proofs.Words.{◌≡◌, ℕ, ◌+◌, ◌-◌, List, refl, sym, subst, arith, Some, None, slice_get, slice_get_within, Disk, Answer, map_of, CommitRun, ScriptCall, Script, calls_of, CopyRun, Copies, Commits, More, Busy, Done, at_disk, BeginsJobSo, BeginsRound, Stands, rests, job_begins_calls, job_begins_stands, Comes, TakesTurn, calls_under_way, setting_now, LeavesBegun, Station, Client}
 use Rattle.core_state.specs.declared.answer.Kind.TheVariants as kind
 use Rattle.schedule.specs.declared.client.Work.TheVariants as work
 use Rattle.schedule.proofs.CommitWorks.{copy_makes}
@@ -9,18 +9,15 @@ use Rattle.schedule.proofs.LeavesPool.{LeavesPool, holds_left, job_begun_leaves}
 use Rattle.schedule.proofs.Running.{with_same}
 use Rattle.schedule.proofs.SyncComes.{commit_comes}
 use Rattle.schedule.proofs.Theirs.{calls_of_others, idle_no_attach}
-use Rattle.schedule.proofs.TurnComes.{comes_begun, comes_nowhere, comes_refused, first_entry, held_gains}
+use Rattle.schedule.proofs.TurnComes.{Dropped, comes_begun, comes_nowhere, comes_refused, first_entry, held_gains}
 
 module _ {script : Script} {actor : ℕ} {before after : Station} {clients news : List Client} {call : ScriptCall}
     (takes : TakesTurn script actor before after clients news) (asked : call.kind ≡ kind.Copy) (no_id : call.id ≡ None)
     (idle : before.client.under_way ≡ None)
     (next : slice_get (calls_of script actor) before.client.begun ≡ Some call)
     (disk : after.state.disk ≡ before.state.disk) where
-  abbrev old : Core
-  old = before.state.core
-
-  abbrev now : Core
-  now = after.state.core
+  open before.state use {core as old}
+  open after.state use {core as now}
 
   -- A copy begins with a job, which holds its sectors alone,
   pub copy_begins : (run : CopyRun) → BeginsJobSo old now actor run
@@ -67,5 +64,5 @@ module _ {script : Script} {actor : ℕ} {before after : Station} {clients news 
       after.state.disk asked refl runs.recorded.latest (search arith) (search arith) (search (rests, arith)))
     where
       answers : AnswersCopy old before.state.disk.devices
-          (HasDropCause (turns_of before.state before.items clients) (turns_of after.state after.items news)) given
+          (Dropped takes) given
       answers = round_answers old given refused.0

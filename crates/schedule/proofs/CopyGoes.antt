@@ -1,5 +1,5 @@
 -- What a later turn of a copy comes to, among the other clients' calls.
-use Rattle.schedule.proofs.Words.{◌≡◌, ⊎_elim, ℕ, ◌-◌, List, [], length, Option, Some, None, refl, sym, ◌∙◌, ap, subst, arith, slice_get, Disk, Gains, Answer, Kept, Setting, map_of, CommitRun, gains_item, ScriptCall, Script, calls_of, CopyRun, CopyRound, Rests, Copies, Commits, More, Done, BeginsJobSo, IsJobOf, Core, CoreState, IsRoundOf, StepsCopy, AreCallsOf, Copying, HoldingCall, TurnGoesOn, rests, job_begins_calls, job_drops_calls, job_steps_calls, job_ends_calls, job_ends_stands, job_begins_stands, job_drops_stands, job_steps_since, job_steps_stands, Comes, TakesTurn, HasDropCause, IsGroupKind, call_of_client, calls_under_way, commit_in, LeavesGoing, Station, entry_for, turns_of, begun_at, Client, UnderWay, Work}
+use Rattle.schedule.proofs.Words.{◌≡◌, ⊎_elim, ℕ, ◌-◌, List, [], length, Option, Some, None, refl, sym, ◌∙◌, ap, subst, arith, slice_get, Disk, Gains, Answer, Kept, Setting, map_of, CommitRun, gains_item, ScriptCall, Script, calls_of, CopyRun, CopyRound, Rests, Copies, Commits, More, Done, BeginsJobSo, IsJobOf, CoreState, IsRoundOf, StepsCopy, AreCallsOf, Copying, HoldingCall, TurnGoesOn, rests, job_begins_calls, job_drops_calls, job_steps_calls, job_ends_calls, job_ends_stands, job_begins_stands, job_drops_stands, job_steps_since, job_steps_stands, TakesTurn, IsGroupKind, call_of_client, calls_under_way, commit_in, LeavesGoing, Station, entry_for, begun_at, Client, UnderWay, Work}
 use Rattle.core_state.specs.declared.answer.Answer.TheVariants as answer
 use Rattle.core_state.specs.declared.answer.Kind.TheVariants as kind
 use Rattle.schedule.specs.declared.client.Work.TheVariants as work
@@ -12,7 +12,7 @@ use Rattle.schedule.proofs.RightNext.{group_cut_right, same_out}
 use Rattle.schedule.proofs.SyncComes.{commit_comes}
 use Rattle.schedule.proofs.SyncGoes.{cut, group_made}
 use Rattle.schedule.proofs.Theirs.{call_begins, call_ends, calls_stay, held_by_others, other_no_attach}
-use Rattle.schedule.proofs.TurnComes.{GoesFrom, OfRuns, StandsNow, comes_finished, comes_working, held_gone, held_moves, its_asked, its_number, its_work, next_held}
+use Rattle.schedule.proofs.TurnComes.{Dropped, GoesFrom, ItComes, OfRuns, StandsNow, comes_finished, comes_working, held_gone, held_moves, its_asked, its_number, its_work, next_held}
 
 -- Where no device was called the images are as they were.
 still_since : {setting : Setting} {last : Kept} {shown : List Kept} {before after : Disk} → after ≡ before
@@ -24,14 +24,8 @@ module _ {script : Script} {actor : ℕ} {before after : Station} {clients news 
     (under_is : before.client.under_way ≡ Some under)
     (is : slice_get (calls_of script actor) (before.client.begun - 1) ≡ Some call)
     (goes : TurnGoesOn before.state after.state) where
-  abbrev old : Core
-  old = before.state.core
-
-  abbrev now : Core
-  now = after.state.core
-
-  abbrev ItComes : Type 0
-  ItComes = Comes script actor before after clients news
+  open before.state use {core as old}
+  open after.state use {core as now}
 
   abbrev from : {round : CopyRound} → under.work ≡ work.Copy round
       → GoesFrom script actor before after clients news call under (work.Copy round)
@@ -54,7 +48,7 @@ module _ {script : Script} {actor : ℕ} {before after : Station} {clients news 
     -- It waits for another's call.
     pub rests_on : (whose : ℕ) (next : Option ℕ)
         → StepsCopy before.state (Rests was made) after.state (More (Rests whose next))
-        → LeavesGoing actor call before after under (More (work.Copy (Rests whose next))) → ItComes
+        → LeavesGoing actor call before after under (More (work.Copy (Rests whose next))) → ItComes takes
     rests_on whose next steps further = comes_working (from does_is) tt
         (work.Copy (Rests whose next)) further tt goes steps.0.1
         (same_keeps old (cc)) (steps.0.0 ∙ its_own) for_call (search (same, arith)) (search (still_since, same, arith))
@@ -65,7 +59,7 @@ module _ {script : Script} {actor : ℕ} {before after : Station} {clients news 
 
     -- A round begins with a job,
     pub rests_copies : (run : CopyRun) → BeginsJobSo old now was run → after.state.disk ≡ before.state.disk
-        → LeavesGoing actor call before after under (More (work.Copy (Copies run))) → ItComes
+        → LeavesGoing actor call before after under (More (work.Copy (Copies run))) → ItComes takes
     rests_copies run begins disk further = comes_working (from does_is) tt (work.Copy (Copies run)) further tt goes refl
         (leaves_commit (job_begun_leaves begins)) (search (its_own, arith)) for_call
         (job_begins_calls was begins (λ other listed same. search (held_by_others, no_call, same, its_own)) gains
@@ -82,7 +76,7 @@ module _ {script : Script} {actor : ℕ} {before after : Station} {clients news 
 
     -- or with a commit.
     pub rests_commits : (run : CommitRun) → StepsCopy before.state (Rests was made) after.state (More (Commits run))
-        → LeavesGoing actor call before after under (More (work.Copy (Commits run))) → ItComes
+        → LeavesGoing actor call before after under (More (work.Copy (Commits run))) → ItComes takes
     rests_commits run steps further = commit_comes copy_makes call takes for_call no_call
         (other_no_attach under_is does_is (λ run same. cc)) steps.1 steps.0.1
         (rw its_own at steps.0.2) is further.0
@@ -94,9 +88,9 @@ module _ {script : Script} {actor : ℕ} {before after : Station} {clients news 
 
     -- It is answered.
     rest_answers : (given : Answer) → AnswersCopy old before.state.disk.devices
-        (HasDropCause (turns_of before.state before.items clients) (turns_of after.state after.items news)) given
-        → after.state ≡ before.state → LeavesGoing actor call before after under (Done given) → ItComes
-    rest_answers given answers same ended = comes_finished (from does_is) tt given ended goes (cc)
+        (Dropped takes) given
+        → after.state ≡ before.state → LeavesGoing actor call before after under (Done given) → ItComes takes
+    rest_answers given answers same ended = comes_finished (from does_is) given ended tt goes (cc)
         (holds_left (ap (λ (s : CoreState). s.core) same)) (cc)
         (group_fits old call.kind given (subst IsGroupKind (sym for_call.0) tt)
         (rw for_call.0 answers.answers) answers.tells answers.limit (search (same, arith)))
@@ -112,12 +106,12 @@ module _ {script : Script} {actor : ℕ} {before after : Station} {clients news 
         calls = calls_stay takes.was takes.changes no_call (cc)
 
     pub rests_ends : (given : Answer) → StepsCopy before.state (Rests was made) after.state (Done given)
-        → LeavesGoing actor call before after under (Done given) → ItComes
+        → LeavesGoing actor call before after under (Done given) → ItComes takes
     rests_ends given steps = search (rest_answers, round_answers)
 
     -- Its journal has no room for another group.
     pub rests_lacks : (given : Answer) → given ≡ answer.NoMemory → after.state ≡ before.state
-        → LeavesGoing actor call before after under (Done given) → ItComes
+        → LeavesGoing actor call before after under (Done given) → ItComes takes
     rests_lacks given given_is = rest_answers given (search (no_memory_answers, arith))
 
   -- ---- a job
@@ -135,7 +129,7 @@ module _ {script : Script} {actor : ℕ} {before after : Station} {clients news 
     -- A sector was read or written.
     pub copies_on : (next : CopyRun) → StepsCopy before.state (Copies run) after.state (More (Copies next))
         → IsRoundOf now (Copies next)
-        → LeavesGoing actor call before after under (More (work.Copy (Copies next))) → ItComes
+        → LeavesGoing actor call before after under (More (work.Copy (Copies next))) → ItComes takes
     copies_on next steps of further = comes_working (from does_is) tt (work.Copy (Copies next)) further tt goes refl
         (out_keeps steps.1.rest goes.out.still) (search its_job) asked_copy
         (job_steps_calls steps.1 of goes.out.still moves.1 moves.2 takes.schedule.going.are)
@@ -154,7 +148,7 @@ module _ {script : Script} {actor : ℕ} {before after : Station} {clients news 
     -- All its sectors are copied, or it is given up while a device is out.
     pub copies_end : (whose : ℕ) (made : Option ℕ)
         → StepsCopy before.state (Copies run) after.state (More (Rests whose made))
-        → LeavesGoing actor call before after under (More (work.Copy (Rests whose made))) → ItComes
+        → LeavesGoing actor call before after under (More (work.Copy (Rests whose made))) → ItComes takes
     copies_end whose made steps further = ⊎_elim
         (λ ended. with (search (job_ended_keeps, gains)) (search (job_ends_calls, gains))
         (λ world past runs. rw steps.1 (job_ends_stands takes.is ended.2 gains takes.schedule.going.are ended.0 ended.1
@@ -169,15 +163,15 @@ module _ {script : Script} {actor : ℕ} {before after : Station} {clients news 
 
         with : KeepsCommit old now → AreCallsOf now (calls_under_way news) → OfRuns takes (λ world past runs.
             StandsNow takes runs runs.contents (map_of world.handed world.opening before.items)
-            (calls_under_way news)) → ItComes
+            (calls_under_way news)) → ItComes takes
         with keeps are stands = comes_working (from does_is) tt
             (work.Copy (Rests whose made)) further tt goes steps.0.1 keeps (steps.0.0 ∙ its_job)
             asked_copy are (search still_since)
 
     -- Too many devices are out.
     pub copies_cut : {given : Answer} → StepsCopy before.state (Copies run) after.state (Done given)
-        → LeavesGoing actor call before after under (Done given) → ItComes
-    copies_cut steps ended = comes_finished (from does_is) tt told was_told goes was_told.0
+        → LeavesGoing actor call before after under (Done given) → ItComes takes
+    copies_cut steps ended = comes_finished (from does_is) told was_told tt goes was_told.0
         (job_dropped_leaves takes.is (job_of gains) steps.1) steps.0
         (group_fits old call.kind told (subst IsGroupKind (sym asked_copy.0) tt) tt
         (λ listed same. (steps.2, same_out (cc))) (λ reached same. cc) tt) (λ full. cc)
@@ -194,7 +188,7 @@ module _ {script : Script} {actor : ℕ} {before after : Station} {clients news 
         was_told = search
 
         gains : Gains (calls_under_way news) (calls_under_way clients) (Copying run)
-        gains = held_gone (from does_is) tt told was_told refl
+        gains = held_gone (from does_is) told was_told refl
 
   -- ---- a commit
 
@@ -202,12 +196,12 @@ module _ {script : Script} {actor : ℕ} {before after : Station} {clients news 
     -- It has made its group, behind which the copy goes on.
     pub commits_make : (whose : ℕ) {made : Option ℕ}
         → StepsCopy before.state (Commits run) after.state (More (Rests whose made))
-        → LeavesGoing actor call before after under (More (work.Copy (Rests whose made))) → ItComes
+        → LeavesGoing actor call before after under (More (work.Copy (Rests whose made))) → ItComes takes
     commits_make whose (committing, (number, made_is, answers)) further =
         group_made copy_makes takes does_is under_is is goes refl whose number committing answers (search)
 
     -- It is cut short.
     pub commits_cut : {given : Answer} → StepsCopy before.state (Commits run) after.state (Done given)
-        → LeavesGoing actor call before after under (Done given) → ItComes
+        → LeavesGoing actor call before after under (Done given) → ItComes takes
     commits_cut steps ended = cut copy_makes takes does_is under_is is goes old.pool.out (steps.0, refl, steps.2)
         (search)

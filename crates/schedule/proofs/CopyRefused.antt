@@ -1,5 +1,5 @@
 -- What a copy is answered, as a round of it begins or as it is stopped.
-use Rattle.schedule.proofs.Words.{◌≡◌, ⊎_elim, ℕ, List, length, None, refl, arith, true, Disk, Expands, has_device, max_group, Answer, Entry, Item, IsAnswerOf, IsGroupBefore, Map, PutBytes, map_after_answer, World, WhyDropped, group_before_grown, IsSyncRefused, IsJobRefused, Core, IsRoundRefused, IsDeviceCause, IsRightNext, group_by}
+use Rattle.schedule.proofs.Words.{◌≡◌, ⊤, subst, ⊎_elim, ℕ, List, length, None, refl, arith, true, Disk, Expands, has_device, max_group, Answer, Entry, Item, IsAnswerOf, IsGroupBefore, Map, PutBytes, map_after_answer, World, WhyDropped, group_before_grown, IsSyncRefused, IsJobRefused, Core, IsRoundRefused, IsDeviceCause, IsRightNext, group_by}
 use Rattle.std.specs.Prelude.{◌≢◌}
 use Rattle.core_state.specs.declared.answer.Answer.TheVariants as answer
 use Rattle.core_state.specs.declared.answer.Kind.TheVariants as kind
@@ -39,75 +39,62 @@ stopped_with core stopped world items item entry disk asked is latest from_is to
 completed_with : (core : Core) (width : ℕ) → core.pool.uber.reflow.from ≡ core.pool.uber.reflow.to
     → width ≡ core.pool.uber.reflow.to → IsRightWith core (answer.Completed width)
 completed_with core width one width_is world items item entry disk asked is latest from_is to_is last =
-    search (copy_right, apart, group_before_grown, arith)
-  where
-    apart : answer.Completed width ≡ answer.Damaged → ⊥
-    apart same = cc
+    search (copy_right, group_before_grown, arith)
 
 -- and paused where it expands.
 paused_with : (core : Core) (device : ℕ) → Expands core.pool.uber.reflow → IsRightWith core (answer.Paused device)
 paused_with core device expands world items item entry disk asked is latest from_is to_is last =
-    copy_right world items entry disk asked (λ damaged. apart (cc)) (rw is tt)
+    copy_right world items entry disk asked (λ damaged. cc) (rw is tt)
     (rw is (item.to, (item, latest, omega (arith, expands, from_is, to_is), refl)))
-  where
-    apart : answer.Paused device ≡ answer.Damaged → ⊥
-    apart same = cc
+
+-- A job's refusal tells of no limit and of no group, and changes no block.
+abbrev IsJobAnswer : Answer → Type 0
+IsJobAnswer (answer.TooManyFailed out) = ⊤
+IsJobAnswer (answer.Completed width) = ⊤
+IsJobAnswer (answer.Paused device) = ⊤
+IsJobAnswer answer.NoMemory = ⊤
+IsJobAnswer other = ⊥
+
+quiet : (given : Answer) → IsJobAnswer given → (group_by given None ≡ None)
+    × ((handed : PutBytes) (map : Map) (entry : Entry) → map_after_answer handed map entry given ≡ map)
+quiet given job = grind arith
+
+job_ends : {core : Core} {devices : ℕ} {dropped : WhyDropped → Type 0} {given : Answer} → IsJobAnswer given
+    → IsAnswerOf kind.Copy given → TellsOut core given
+    → (((device : ℕ) → has_device core.pool.out device ≡ true → dropped (why.DeviceOut device))
+    → IsDeviceCause devices dropped given) → IsRightWith core given → AnswersCopy core devices dropped given
+job_ends {given = given} job of tells cause right = record {
+  answers = of;
+  tells = tells;
+  limit = λ reached told. absurd (subst IsJobAnswer told job);
+  cause = cause;
+  alone = (quiet given job).0;
+  no_full = λ full. subst IsJobAnswer full job;
+  no_block = (quiet given job).1;
+  right = right;
+}
 
 -- Want of memory may end any copy.
-pub no_memory_answers : (core : Core) (devices : ℕ) (dropped : WhyDropped → Type 0)
+pub no_memory_answers : (core : Core) {devices : ℕ} {dropped : WhyDropped → Type 0}
     → AnswersCopy core devices dropped answer.NoMemory
-no_memory_answers core devices dropped = record {
-  answers = tt;
-  tells = λ listed told. cc;
-  limit = λ reached told. cc;
-  cause = λ known. tt;
-  alone = refl;
-  no_full = λ full. cc;
-  no_block = λ handed map entry. refl;
-  right = stopped_with core tt;
-}
+no_memory_answers core = job_ends tt tt (λ listed told. cc) (λ known. tt) (stopped_with core tt)
 
 -- So it is where a job is refused,
 job_answers : (core : Core) {devices : ℕ} {dropped : WhyDropped → Type 0} (given : Answer) → IsJobRefused core given
     → AnswersCopy core devices dropped given
-job_answers core (answer.TooManyFailed out) refused = record {
-  answers = tt;
-  tells = search (same_out, arith);
-  limit = λ reached told. cc;
-  cause = λ known. tt;
-  alone = refl;
-  no_full = λ full. cc;
-  no_block = λ handed map entry. refl;
-  right = stopped_with core tt;
-}
-job_answers core (answer.Completed width) refused = record {
-  answers = refl;
-  tells = λ listed told. cc;
-  limit = λ reached told. cc;
-  cause = λ known. tt;
-  alone = refl;
-  no_full = λ full. cc;
-  no_block = λ handed map entry. refl;
-  right = search completed_with;
-}
-job_answers core (answer.Paused device) refused = record {
-  answers = refl;
-  tells = λ listed told. cc;
-  limit = λ reached told. cc;
-  cause = λ known. known device refused.2;
-  alone = refl;
-  no_full = λ full. cc;
-  no_block = λ handed map entry. refl;
-  right = paused_with core device refused.1;
-}
-job_answers core {devices = devices} {dropped = dropped} answer.NoMemory refused = no_memory_answers core devices
-    dropped
+job_answers core (answer.TooManyFailed out) refused =
+    job_ends tt tt (search (same_out, arith)) (λ known. tt) (stopped_with core tt)
+job_answers core (answer.Completed width) refused =
+    job_ends tt refl (λ listed told. cc) (λ known. tt) (search completed_with)
+job_answers core (answer.Paused device) refused =
+    job_ends tt refl (λ listed told. cc) (λ known. known device refused.2) (paused_with core device refused.1)
+job_answers core answer.NoMemory refused = no_memory_answers core
 job_answers core other refused = absurd refused
 
 -- and where a commit is.
-commit_answers : (core : Core) (devices : ℕ) (dropped : WhyDropped → Type 0) (given : Answer) → IsSyncRefused core given
-    → AnswersCopy core devices dropped given
-commit_answers core devices dropped given refused = record {
+commit_answers : (core : Core) {devices : ℕ} {dropped : WhyDropped → Type 0} (given : Answer)
+    → IsSyncRefused core given → AnswersCopy core devices dropped given
+commit_answers core given refused = record {
   answers = refused_answers kind.Copy core given refused;
   tells = refused_tells core given refused;
   limit = search arith;
@@ -120,10 +107,7 @@ commit_answers core devices dropped given refused = record {
   where
     -- It comes with no group.
     commit_alone : (given : Answer) → IsSyncRefused core given → group_by given None ≡ None
-    commit_alone (answer.TooManyFailed out) refused = refl
-    commit_alone (answer.Limit reached) refused = refl
-    commit_alone answer.NoMemory refused = refl
-    commit_alone other refused = absurd refused
+    commit_alone given refused = grind arith
 
 pub round_answers : (core : Core) {devices : ℕ} {dropped : WhyDropped → Type 0} (given : Answer)
     → IsRoundRefused core given → AnswersCopy core devices dropped given

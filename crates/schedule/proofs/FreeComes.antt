@@ -1,5 +1,5 @@
 -- What a free comes to.
-use Rattle.schedule.proofs.Words.{◌≡◌, inr, ℕ, List, Option, Some, None, refl, sym, ◌∙◌, ap, subst, slice_get, option_and_then, Disk, Answer, Entry, Map, PutBytes, map_of, map_after_answer, IsAnswerOf, IsRightFree, found_id, found_listed, map_after_free, HoldsMap, ScriptCall, Script, calls_of, Core, at_disk, pool_at, FreesBlock, Stands, Done, frees_calls, frees_stands, Client, Station, Frees, LeavesBegun, TakesTurn, Comes, calls_under_way, setting_now}
+use Rattle.schedule.proofs.Words.{◌≡◌, inr, ℕ, List, Option, Some, None, refl, sym, ◌∙◌, ap, slice_get, option_and_then, Disk, Answer, Entry, Map, PutBytes, map_of, map_after_answer, IsAnswerOf, IsRightFree, found_id, found_listed, map_after_free, HoldsMap, ScriptCall, Script, calls_of, Core, at_disk, pool_at, FreesBlock, Done, frees_calls, frees_stands, Client, Station, Frees, LeavesBegun, TakesTurn, Comes, calls_under_way}
 use Rattle.core_state.specs.declared.answer.Answer.TheVariants as answer
 use Rattle.core_state.specs.declared.answer.Kind.TheVariants as kind
 use Rattle.schedule.proofs.Fitting.{no_device_cause, plain_no_limit}
@@ -9,22 +9,28 @@ use Rattle.schedule.proofs.LeavesPool.{LeavesPool, holds_left}
 use Rattle.schedule.proofs.TurnComes.{first_entry, comes_at_once}
 use Rattle.schedule.proofs.Fulls.{put_alone}
 
--- The pool stays,
-frees_pool : (old new : Core) (id : ℕ) (given : Answer) → FreesBlock old new id given → LeavesPool old new
-frees_pool old new id answer.Freed frees = holds_left frees.2.rest
-frees_pool old new id answer.Absent frees = holds_left frees.1.rest
-frees_pool old new id (answer.TooManyFailed out) frees = holds_left frees.2
-frees_pool old new id other frees = absurd frees
+-- The pool stays, the answer is one to a free, and the map after it is the one that a free leaves.
+record FreesSo (old new : Core) (id : ℕ) (given : Answer) : Type 0 where
+  pool : LeavesPool old new
+  answers : IsAnswerOf kind.Free given
+  plain : IsPlain given
+  leaves : (handed : PutBytes) (map : Map) (entry : Entry) → entry.id ≡ Some id
+      → map_after_answer handed map entry given ≡ map_after_free map id given
 
--- the answer is one to a free,
-frees_of : (old new : Core) (id : ℕ) (given : Answer) → FreesBlock old new id given
-    → IsAnswerOf kind.Free given × IsPlain given
-frees_of old new id answer.Freed frees = (refl, tt)
-frees_of old new id answer.Absent frees = (inr (inr refl), tt)
-frees_of old new id (answer.TooManyFailed out) frees = (tt, tt)
-frees_of old new id other frees = absurd frees
+frees_so : (old new : Core) (id : ℕ) (given : Answer) → FreesBlock old new id given → FreesSo old new id given
+frees_so old new id answer.Freed frees =
+    record { pool = holds_left frees.2.rest; answers = refl; plain = tt; leaves = λ handed map entry is. cc }
+frees_so old new id answer.Absent frees = record {
+  pool = holds_left frees.1.rest;
+  answers = inr (inr refl);
+  plain = tt;
+  leaves = λ handed map entry is. refl;
+}
+frees_so old new id (answer.TooManyFailed out) frees =
+    record { pool = holds_left frees.2; answers = tt; plain = tt; leaves = λ handed map entry is. refl }
+frees_so old new id other frees = absurd frees
 
--- and right of the map that the pool held.
+-- The answer is right of the map that the pool held.
 frees_right : (old new : Core) {disk : Disk} (map : Map) (id : ℕ) (given : Answer)
     → HoldsMap map (pool_at (at_disk old disk)) → FreesBlock old new id given → IsRightFree (map id) given
 frees_right old new map id answer.Freed holds frees = λ none.
@@ -39,48 +45,32 @@ frees_right old new map id answer.Absent holds frees = by (map id) refl
 frees_right old new map id (answer.TooManyFailed out) holds frees = tt
 frees_right old new map id other holds frees = cc
 
--- The map after it is the one that a free leaves.
-frees_map : (old new : Core) (handed : PutBytes) (map : Map) (entry : Entry) {id : ℕ} (given : Answer)
-    → entry.id ≡ Some id → FreesBlock old new id given
-    → map_after_answer handed map entry given ≡ map_after_free map id given
-frees_map old new handed map entry answer.Freed id_is frees = cc
-frees_map old new handed map entry answer.Absent id_is frees = refl
-frees_map old new handed map entry (answer.TooManyFailed out) id_is frees = refl
-frees_map old new handed map entry other id_is frees = absurd frees
-
 module _ {script : Script} {actor : ℕ} {before after : Station} {clients news : List Client}
     (takes : TakesTurn script actor before after clients news) {call : ScriptCall} (id : ℕ) {given : Answer}
     (asked : call.kind ≡ kind.Free) (id_is : call.id ≡ Some id) (idle : before.client.under_way ≡ None)
     (next : slice_get (calls_of script actor) before.client.begun ≡ Some call)
     (frees : Frees before.state.core after.state.core id given) (disk : after.state.disk ≡ before.state.disk)
     (left : LeavesBegun actor call before after (Done given)) where
-  -- It is no put.
-  free_no_put : kind.Free ≡ kind.Put → ⊥
-  free_no_put same = cc
-
   -- A free is answered at once.
   pub free_at_once : Comes script actor before after clients news
   free_at_once =
-      let of = frees_of before.state.core after.state.core id given frees.frees in
-      comes_at_once takes idle (search frees_pool) disk next left (record {
-        of_kind = rw asked of.0;
-        tells = λ out told. let many = rw told at frees.frees in
-            (many.0, many.1);
-        limit = λ reached told. absurd (plain_no_limit of.1 reached told);
+      let of = frees_so before.state.core after.state.core id given frees.frees in
+      comes_at_once takes idle of.pool disk next left (record {
+        of_kind = rw asked of.answers;
+        tells = λ out told. let many = rw told at frees.frees in (many.0, many.1);
+        limit = λ reached told. absurd (plain_no_limit of.plain reached told);
         memory = λ wanting. absurd (rw wanting at frees.frees);
         device = search no_device_cause;
       })
-      (λ full. absurd (put_alone free_no_put of.0 full))
+      (λ full. absurd (put_alone (λ put. cc) of.answers full))
       (frees_calls before.state.core after.state.core id given (calls_under_way clients) frees.frees frees.under
       takes.schedule.going.are)
       (λ world past runs.
       let map = map_of world.handed world.opening before.items in
       let entry = first_entry call actor before given in (
-        free_right world before.items entry after.state.disk asked of.1
+        free_right world before.items entry after.state.disk asked of.plain
             (rw (ap (option_and_then map) id_is) (frees_right before.state.core after.state.core map id given
             runs.stands.holds frees.frees)),
-        subst (λ (m : Map). Stands (setting_now runs) runs.last runs.begun m runs.contents (calls_under_way clients)
-            runs.commit after.state)
-            (sym (frees_map before.state.core after.state.core world.handed map entry given id_is frees.frees))
-            (rw disk (frees_stands id given takes.is frees.frees frees.kept runs.stands)),
+        rw (of.leaves world.handed map entry id_is) (rw disk
+            (frees_stands id given takes.is frees.frees frees.kept runs.stands)),
       ))

@@ -1,5 +1,5 @@
 -- What the first turn of a client's put comes to.
-use Rattle.schedule.proofs.Words.{◌≡◌, ◌≢◌, ℕ, List, length, Some, None, refl, sym, subst, Contains, slice_get, AreBytes, Answer, Entry, map_of, ScriptCall, fill_bytes, Script, calls_of, PutRun, More, Busy, Done, Core, BeginsPutTurn, LeavesBlocks, HoldingCall, actor_of, keeps_gained, begins_rearranges, put_begins_calls, put_refused_calls, put_begins_stands, put_refused_stands, Client, calls_under_way, Station, LeavesBegun, TakesTurn, Comes}
+use Rattle.schedule.proofs.Words.{◌≡◌, ◌≢◌, ℕ, List, length, Some, None, refl, sym, subst, Contains, slice_get, AreBytes, Answer, Entry, map_of, ScriptCall, fill_bytes, Script, calls_of, PutRun, More, Busy, Done, BeginsPutTurn, LeavesBlocks, HoldingCall, actor_of, keeps_gained, begins_rearranges, put_begins_calls, put_refused_calls, put_begins_stands, put_refused_stands, Client, calls_under_way, Station, LeavesBegun, TakesTurn, Comes}
 use Rattle.core_state.specs.declared.answer.Kind.TheVariants as kind
 use Rattle.schedule.specs.declared.client.Work.TheVariants as work
 use Rattle.schedule.proofs.Fitting.{IsPlainKind, fits, plain_no_limit}
@@ -19,11 +19,8 @@ module _ {script : Script} {actor : ℕ} {before after : Station} {clients news 
   abbrev content : List ℕ
   content = fill_bytes call.fill
 
-  abbrev old : Core
-  old = before.state.core
-
-  abbrev now : Core
-  now = after.state.core
+  open before.state use {core as old}
+  open after.state use {core as now}
 
   -- It begins on sectors that no other call has.
   pub put_begins : (run : PutRun) → AreBytes content → BeginsPutTurn old now actor id (length content) (More run)

@@ -60,35 +60,22 @@ given_up_stopped {old = old} stopped = record {
   gives_up = stopped.gives_up;
   unstored = subst IsUnstored (sym stopped.given_is) tt;
   tells = rw stopped.given_is (tells_out old stopped.many refl);
-  other = λ full. apart (cc);
+  other = λ full. cc;
 }
-  where
-    apart : answer.TooManyFailed old.pool.out ≡ answer.Full → ⊥
-    apart same = cc
 
 -- and where memory is wanting to fill it in.
 given_up_turn : {old new : Core} {run : PutRun} (given : Answer) → GivesUpTurn old run new (Done given)
     → IsGivenUp old new run given
-given_up_turn answer.NoMemory is = record {
-  gives_up = is.1;
-  unstored = tt;
-  tells = λ listed told. cc;
-  other = λ full. apart full;
-}
-  where
-    other : (listed : ℕ) → answer.NoMemory ≡ answer.TooManyFailed listed → ⊥
-    other listed told = cc
-
-    apart : answer.NoMemory ≡ answer.Full → ⊥
-    apart same = cc
-given_up_turn {old = old} {new = new} {run = run} (answer.TooManyFailed out) is = given_up_stopped is
+given_up_turn answer.NoMemory is =
+    record { gives_up = is.1; unstored = tt; tells = λ listed told. cc; other = λ full. cc }
+given_up_turn (answer.TooManyFailed out) is = given_up_stopped is
 given_up_turn other is = absurd is
 
 -- Once all is written, its block is stored or the put is given up.
 stored_or_given_up : {old new : Core} {run : PutRun} (given : Answer) → EndsPut old run new (Done given)
     → ((given ≡ answer.Stored) × StoresBlock old new run) ⊎ IsGivenUp old new run given
 stored_or_given_up answer.Stored is = inl (refl, is)
-stored_or_given_up {old = old} {new = new} {run = run} (answer.TooManyFailed out) is = inr (given_up_stopped is)
+stored_or_given_up (answer.TooManyFailed out) is = inr (given_up_stopped is)
 stored_or_given_up other is = absurd is
 
 -- All of it was written.

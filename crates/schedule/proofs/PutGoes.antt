@@ -1,5 +1,5 @@
 -- What each later turn of a client's put comes to.
-use Rattle.schedule.proofs.Words.{◌≡◌, ◌≢◌, ⊎_elim, ℕ, ◌-◌, List, [], ◌∷◌, ◌++◌, Option, Some, refl, sym, ◌∙◌, ap, subst, option_map, slice_get, unwrap_or, EndsHold, Gains, gains_item, Answer, Entry, Map, PutBytes, map_of, map_after_answer, with_block, IsAnswerOf, World, ScriptCall, fill_bytes, Script, calls_of, handed_by, PutRun, More, Done, Core, at_disk, IsPutOf, StoresBlock, WritesOne, HoldingCall, Putting, AreCallsOf, Stands, TurnGoesOn, keeps_ended, Rearranges, ends_rearranges, gives_up_rearranges, put_ends_calls, put_gives_up_calls, put_writes_calls, put_ends_stands, put_gives_up_stands, put_shared, put_writes_stands, put_writes_since, Client, UnderWay, IsWorkFor, Runs, calls_under_way, setting_now, Station, EndsPutting, GoesOnPutting, IsFilledIn, LeavesGoing, entry_for, made_by, IsWorldOf, TakesTurn, Comes, Past}
+use Rattle.schedule.proofs.Words.{◌≡◌, ◌≢◌, ⊎_elim, ℕ, ◌-◌, List, [], ◌∷◌, ◌++◌, Option, Some, refl, sym, ◌∙◌, ap, subst, option_map, slice_get, unwrap_or, EndsHold, Gains, gains_item, Answer, Entry, Map, PutBytes, map_of, map_after_answer, with_block, IsAnswerOf, World, ScriptCall, fill_bytes, Script, calls_of, handed_by, PutRun, More, Done, at_disk, IsPutOf, StoresBlock, WritesOne, HoldingCall, Putting, AreCallsOf, Stands, TurnGoesOn, keeps_ended, Rearranges, ends_rearranges, gives_up_rearranges, put_ends_calls, put_gives_up_calls, put_writes_calls, put_ends_stands, put_gives_up_stands, put_shared, put_writes_stands, put_writes_since, Client, UnderWay, IsWorkFor, Runs, calls_under_way, setting_now, Station, EndsPutting, GoesOnPutting, IsFilledIn, LeavesGoing, entry_for, made_by, IsWorldOf, TakesTurn, Comes, Past}
 use Rattle.core_state.specs.declared.answer.Answer.TheVariants as answer
 use Rattle.core_state.specs.declared.answer.Kind.TheVariants as kind
 use Rattle.core_state.specs.declared.item.Item.TheVariants.{Call as CallItem}
@@ -16,11 +16,8 @@ module _ {script : Script} {actor : ℕ} {before after : Station} {clients news 
     (does_is : under.work ≡ work.Put run) (under_is : before.client.under_way ≡ Some under)
     (is : slice_get (calls_of script actor) (before.client.begun - 1) ≡ Some call)
     (goes : TurnGoesOn before.state after.state) where
-  abbrev old : Core
-  old = before.state.core
-
-  abbrev now : Core
-  now = after.state.core
+  open before.state use {core as old}
+  open after.state use {core as now}
 
   abbrev from : GoesFrom script actor before after clients news call under (work.Put run)
   from = record { takes = takes; does_is = does_is; under_is = under_is; is = is }
@@ -81,7 +78,7 @@ module _ {script : Script} {actor : ℕ} {before after : Station} {clients news 
     entry = entry_for call actor before.client.begun under.at given
 
     among : FilledAmong before.state (fill_bytes call.fill) (calls_under_way news) (calls_under_way clients) run filled
-    among = filled_among fills (held_gone from tt given ended refl)
+    among = filled_among fills (held_gone from given ended refl)
 
     of_filled : IsPutOf old filled
     of_filled = among.are.each (Putting filled) (gains_item (calls_under_way news) among.nexts
@@ -98,7 +95,7 @@ module _ {script : Script} {actor : ℕ} {before after : Station} {clients news 
         (map_after_answer world.handed (map_of world.handed world.opening before.items) entry given) runs.contents
         (calls_under_way news) runs.commit (at_disk now before.state.disk))
         → Comes script actor before after clients news
-    ends_with listed change ends plain answers tells other are stands = comes_finished from tt given ended goes listed
+    ends_with listed change ends plain answers tells other are stands = comes_finished from given ended tt goes listed
         (search (rearranged_leaves, keeps_ended, put_shared, filled, of_filled)) disk
         (fits (rw asked_for.0 answers) tells (plain_no_limit plain) (subst IsPlainKind (sym asked_for.0) tt)) other are
         (λ world past handed runs. (
@@ -112,15 +109,12 @@ module _ {script : Script} {actor : ℕ} {before after : Station} {clients news 
     put_stored given_is stores whole = ends_with (cc)
         (ends_rearranges old now filled stores) stores.ends (subst IsPlain (sym given_is) tt)
         (rw given_is refl) (λ listed told. cc)
-        (λ full. no_full (cc)) (put_ends_calls stores among.gains among.are)
+        (λ full. cc) (put_ends_calls stores among.gains among.are)
         (λ world past handed runs stood.
         rw (map_is world handed.handed (map_of world.handed world.opening before.items)
         (runs.contents filled.hold.actor) (ap (λ (r : PutRun). runs.contents r.hold.actor) same ∙ content_is runs))
         (put_ends_stands takes.is stores whole among.gains among.are stood))
       where
-        no_full : answer.Stored ≡ answer.Full → ⊥
-        no_full same = cc
-
         same : filled ≡ record run { filled = filled.filled }
         same = fills_same call run filled fills
 

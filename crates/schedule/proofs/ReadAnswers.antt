@@ -3,24 +3,18 @@ use Rattle.schedule.proofs.Words.{◌≡◌, inl, inr, ⊎_elim, ℕ, ◌≤◌,
 use Rattle.core_state.specs.declared.answer.Answer.TheVariants as answer
 use Rattle.core_state.specs.declared.answer.Kind.TheVariants as kind
 use Rattle.core_state.specs.declared.item.Item.TheVariants.{Call as CallItem}
-use Rattle.schedule.proofs.Fitting.{NoLimit}
+use Rattle.schedule.proofs.Fitting.{NoLimit, TellsOut}
 use Rattle.schedule.proofs.RightNext.{read_right, read_cut_right, same_out}
 use Rattle.schedule.proofs.LeavesPool.{LeavesPool, leaves_pool}
 use Rattle.schedule.proofs.Lists.{gains_first}
 
 -- ---- answers
 
--- A read may be told that its block is absent,
-absent_of : (asked : Kind) → IsReadKind asked → IsAnswerOf asked answer.Absent
-absent_of kind.Get is = inl refl
-absent_of kind.Sum is = inr (inl refl)
-absent_of other is = absurd is
-
--- or damaged.
-damaged_of : (asked : Kind) → IsReadKind asked → IsAnswerOf asked answer.Damaged
-damaged_of kind.Get is = inl refl
-damaged_of kind.Sum is = inr refl
-damaged_of other is = absurd is
+-- A read may be told that its block is absent, or damaged.
+lacks_of : (asked : Kind) → IsReadKind asked → IsAnswerOf asked answer.Absent × IsAnswerOf asked answer.Damaged
+lacks_of kind.Get is = (inl refl, inl refl)
+lacks_of kind.Sum is = (inr (inl refl), inr refl)
+lacks_of other is = absurd is
 
 -- the point that a read's answer speaks of
 point_read : (asked : Kind) (at : ℕ) (given : Answer) → IsReadKind asked
@@ -63,7 +57,7 @@ right_read world {items = items} {disk = disk} call actor {number = number} {at 
 pub refused_of : (core : Core) (id : ℕ) (asked : Kind) (given : Answer) → IsReadKind asked → IsGetRefused core id given
     → IsAnswerOf asked given
 refused_of core id asked (answer.TooManyFailed out) is refused = tt
-refused_of core id asked answer.Absent is refused = absent_of asked is
+refused_of core id asked answer.Absent is refused = (lacks_of asked is).0
 refused_of core id asked answer.NoMemory is refused = tt
 refused_of core id asked other is refused = absurd refused
 
@@ -91,7 +85,7 @@ solved_of run solved {given = given} is answers = by solved answers
     by : (solved : Solved) → AnswersSolved run solved given → Tells run.kind given
     by NotYet told = search arith
     by (Bytes bytes) told = search (block, arith)
-    by Damaged told = search (damaged_of, arith)
+    by Damaged told = search (lacks_of, arith)
 
 -- ---- the end of a read
 
@@ -100,8 +94,7 @@ pub record EndsRead (before after : CoreState) (run : GetRun) (given : Answer) (
   where
     pub leaves : LeavesPool before.core after.core
     pub answer_is : IsAnswerOf run.kind given
-    pub too_many : (out : ℕ) → given ≡ answer.TooManyFailed out
-        → HasTooManyOut before.core × (out ≡ before.core.pool.out)
+    pub too_many : TellsOut before.core given
     pub no_limit : NoLimit given
     pub calls_are : AreCallsOf after.core left
     pub stands : (setting : Setting) (last : Kept) (begun : List Kept) (map : Map) (contents : ℕ → List ℕ)
@@ -124,16 +117,13 @@ stopped_ends {before} {after} {run} {given} {left} {calls} core stops gains are 
   leaves = search read_leaves;
   answer_is = search arith;
   too_many = search (same_out, arith);
-  no_limit = search (none_told, arith);
+  no_limit = λ reached told. cc;
   calls_are = search get_ends_calls;
   stands = λ setting last begun map contents commit stands. (
     rw stops.1 (get_ends_stands core stops.0.rest stops.0.ends gains are stands),
     search arith,
   );
 }
-  where
-    none_told : NoLimit (answer.TooManyFailed before.core.pool.out)
-    none_told reached same = cc
 
 -- or it is answered as it was solved,
 answered_ends : {before after : CoreState} {run : GetRun} {given : Answer} {left calls : List HoldingCall}
@@ -144,7 +134,7 @@ answered_ends {before} {after} {run} {given} {left} {calls} core is ends disk ga
   leaves = read_leaves ends.rest ends.ends gains are;
   answer_is = search (solved_of, few, cases_lt, arith);
   too_many = search (same_out, solved_of, few, cases_lt, arith);
-  no_limit = search (none_told, solved_of, few, cases_lt, arith);
+  no_limit = search (solved_of, few, cases_lt, arith);
   calls_are = get_ends_calls ends.rest ends.ends gains are;
   stands = λ setting last begun map contents commit stands. (
     rw disk (get_ends_stands core ends.rest ends.ends gains are stands),
@@ -155,9 +145,6 @@ answered_ends {before} {after} {run} {given} {left} {calls} core is ends disk ga
   where
     few : count_of before.core.pool.out ≤ before.core.pool.uber.parity → HasTooManyOut before.core → ⊥
     few low many = omega arith
-
-    none_told : NoLimit (answer.TooManyFailed before.core.pool.out)
-    none_told reached same = cc
 
 -- where it may be solved just then.
 solved_ends : {before after : CoreState} {run solved : GetRun} {given : Answer} {left calls : List HoldingCall}

@@ -1,5 +1,5 @@
 -- What the turns of reads come to.
-use Rattle.schedule.proofs.Words.{◌≡◌, ◌≢◌, ℕ, ◌-◌, List, Some, None, refl, sym, ◌∙◌, ap, subst, arith, Contains, slice_get, option_and_then, Disk, Hold, Gains, Answer, Kind, Entry, Map, map_of, map_after, IsAnswerOf, found_id, gains_item, IsReadRight, ScriptCall, Script, calls_of, map_at_end, GetRun, More, Busy, Done, Core, at_disk, IsReadKind, BeginsGet, HoldingCall, Reading, Stands, TurnGoesOn, actor_of, since_read, get_finds, keeps_gained, get_begins_stands, get_reads_stands, get_begins_calls, get_reads_calls, Client, UnderWay, IsWorkFor, calls_under_way, setting_now, Station, GoesOnReading, EndsReading, LeavesBegun, LeavesGoing, entry_for, TakesTurn, Comes}
+use Rattle.schedule.proofs.Words.{◌≡◌, ◌≢◌, ℕ, ◌-◌, List, Some, None, refl, sym, ◌∙◌, ap, subst, arith, Contains, slice_get, option_and_then, Disk, Hold, Gains, Answer, Kind, Entry, Map, map_of, map_after, IsAnswerOf, found_id, gains_item, IsReadRight, ScriptCall, Script, calls_of, map_at_end, GetRun, More, Busy, Done, at_disk, IsReadKind, BeginsGet, HoldingCall, Reading, Stands, TurnGoesOn, actor_of, since_read, get_finds, keeps_gained, get_begins_stands, get_reads_stands, get_begins_calls, get_reads_calls, Client, UnderWay, IsWorkFor, calls_under_way, setting_now, Station, GoesOnReading, EndsReading, LeavesBegun, LeavesGoing, entry_for, TakesTurn}
 use Rattle.core_state.specs.declared.answer.Answer.TheVariants as answer
 use Rattle.schedule.specs.declared.client.Work.TheVariants as work
 use Rattle.schedule.proofs.Fitting.{fits, read_plain_kind}
@@ -9,18 +9,12 @@ use Rattle.schedule.proofs.Fulls.{put_alone, read_no_put}
 use Rattle.schedule.proofs.Running.{sets_content, with_content}
 use Rattle.schedule.proofs.ReadAnswers.{EndsRead, listed_read, map_read, right_read, refused_of, refused_right, read_ends_so}
 use Rattle.schedule.proofs.LeavesPool.{LeavesPool, holds_left, leaves_pool, out_keeps}
-use Rattle.schedule.proofs.TurnComes.{GoesFrom, comes_begun, comes_finished, comes_nowhere, comes_refused, comes_working, held_gains, held_gone, held_moves, its_asked, its_content, its_going, its_work}
+use Rattle.schedule.proofs.TurnComes.{GoesFrom, ItComes, comes_begun, comes_finished, comes_nowhere, comes_refused, comes_working, held_gains, held_gone, held_moves, its_asked, its_content, its_going, its_work}
 
 module _ {script : Script} {actor : ℕ} {before after : Station} {clients news : List Client}
     (takes : TakesTurn script actor before after clients news) (call : ScriptCall) where
-  abbrev old : Core
-  old = before.state.core
-
-  abbrev now : Core
-  now = after.state.core
-
-  abbrev ItComes : Type 0
-  ItComes = Comes script actor before after clients news
+  open before.state use {core as old}
+  open after.state use {core as now}
 
   -- ---- a read in its first turn
 
@@ -29,7 +23,7 @@ module _ {script : Script} {actor : ℕ} {before after : Station} {clients news 
       (disk : after.state.disk ≡ before.state.disk) where
     -- A read begins.
     pub read_begins : (run : GetRun) → BeginsGet old now actor call.kind id (More run)
-        → LeavesBegun actor call before after (More (work.Read run)) → ItComes
+        → LeavesBegun actor call before after (More (work.Read run)) → ItComes takes
     read_begins run begins begun =
         let gains = held_gains takes idle leaves disk next begun refl in
         comes_begun takes idle leaves disk next begun refl tt
@@ -60,12 +54,12 @@ module _ {script : Script} {actor : ℕ} {before after : Station} {clients news 
 
     -- It waits, and nothing changes.
     pub read_waits : {by : ℕ} → BeginsGet old now actor call.kind id (Busy by)
-        → LeavesBegun actor call before after (Busy by) → ItComes
+        → LeavesBegun actor call before after (Busy by) → ItComes takes
     read_waits begins left = comes_nowhere takes (search arith)
 
     -- It is answered at once.
     pub read_at_once : (given : Answer) → BeginsGet old now actor call.kind id (Done given)
-        → LeavesBegun actor call before after (Done given) → ItComes
+        → LeavesBegun actor call before after (Done given) → ItComes takes
     read_at_once given begins left =
         let of = refused_of old id call.kind given is begins.1 in
         comes_refused takes idle (holds_left begins.0) disk next begins.0 left (search (fits, read_plain_kind, arith))
@@ -95,7 +89,7 @@ module _ {script : Script} {actor : ℕ} {before after : Station} {clients news 
 
     -- A read goes on.
     pub read_goes_on : (next : GetRun) → GoesOnReading before.state after.state run next
-        → LeavesGoing actor call before after under (More (work.Read next)) → ItComes
+        → LeavesGoing actor call before after under (More (work.Read next)) → ItComes takes
     read_goes_on next reads further = comes_working from tt (work.Read next) further tt goes refl
         (out_keeps reads.reads.2 goes.out.still) (ap (λ (r : GetRun). r.hold.actor) same ∙ its) (
           asked_for.0 ∙ sym (ap (λ (r : GetRun). r.kind) same),
@@ -117,8 +111,8 @@ module _ {script : Script} {actor : ℕ} {before after : Station} {clients news 
 
     -- A read ends.
     pub read_ends : (given : Answer) → EndsReading before.state after.state run given
-        → LeavesGoing actor call before after under (Done given) → ItComes
-    read_ends given ending ended = comes_finished from tt given ended goes
+        → LeavesGoing actor call before after under (Done given) → ItComes takes
+    read_ends given ending ended = comes_finished from given ended tt goes
         (search (listed_read, entry, call_read, given_is, arith)) ends.leaves ending.disk
         (search (fits, given_is, read_plain_kind, call_read, arith))
         (λ full. put_alone (read_no_put call_read) given_is full) ends.calls_are
@@ -138,7 +132,7 @@ module _ {script : Script} {actor : ℕ} {before after : Station} {clients news 
         entry = entry_for call actor before.client.begun under.at given
 
         gone : Gains (calls_under_way news) (calls_under_way clients) (Reading run)
-        gone = held_gone from tt given ended refl
+        gone = held_gone from given ended refl
 
         is_read : IsReadKind run.kind
         is_read = (takes.schedule.going.are.each (Reading run) (search (gains_item, gone))).0

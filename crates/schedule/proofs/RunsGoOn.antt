@@ -1,12 +1,12 @@
 -- What stood before a turn of one client stands after it, where nothing is listed.
-use Rattle.schedule.proofs.Words.{◌≡◌, ◌≢◌, ℕ, ◌+◌, ◌-◌, List, [], ◌∷◌, length, Some, None, refl, sym, ◌∙◌, ap, subst, arith, slice_get, slice_get_within, Disk, Later, TouchesOnly, Item, Map, map_of, Option, ⊎_elim, ◌⊎◌, inl, Kept, Setting, World, Lays, CommitRun, IsOnInUse, ScriptCall, Script, calls_of, AttachRun, Reads, Checked, Joins, Signs, HoldsAttach, attach_commit, CoreState, Stands, shown_in, shown_of, IsBeforeCommit, attach_beside, Client, UnderWay, Work, Changes, Past, Recorded, AreGoing, HasBegunBy, HasContent, IsClient, IsGoing, MakesCommit, Runs, calls_under_way, commit_in, setting_now, IsTheirs}
+use Rattle.schedule.proofs.Words.{◌≡◌, inr, Core, ◌≢◌, ℕ, ◌+◌, ◌-◌, List, [], ◌∷◌, length, Some, None, refl, sym, ◌∙◌, ap, subst, arith, slice_get, slice_get_within, Disk, Later, TouchesOnly, Item, Map, map_of, Option, ⊎_elim, ◌⊎◌, inl, Kept, Setting, World, Lays, CommitRun, IsOnInUse, ScriptCall, Script, calls_of, AttachRun, Reads, Checked, Joins, Signs, HoldsAttach, attach_commit, CoreState, Stands, shown_in, shown_of, IsBeforeCommit, attach_beside, Client, UnderWay, Work, Changes, Past, Recorded, AreGoing, HasBegunBy, HasContent, IsClient, IsGoing, MakesCommit, Runs, calls_under_way, commit_in, setting_now, IsTheirs}
 use Rattle.core_state.specs.declared.item.Group.{Group as GroupItem}
 use Rattle.schedule.specs.declared.client.Work.TheVariants as work
 use Rattle.schedule.proofs.Going.{one_commit}
-use Rattle.schedule.proofs.Syncs.{its_commit}
+use Rattle.schedule.proofs.Syncs.{its_commit, no_commit}
 use Rattle.schedule.proofs.Recording.{GoesOnSince, recorded_goes}
 use Rattle.schedule.proofs.Running.{group_free, with_content, with_other, with_own}
-use Rattle.schedule.proofs.Theirs.{IsNoCommit, OnlyIt, before_commit, each_going, idle_no_commit, no_one, commit_stays, the_one, work_no_commit}
+use Rattle.schedule.proofs.Theirs.{none_some, run_of, OnlyIt, before_commit, each_going, idle_no_commit, no_one, commit_stays, the_one, work_no_commit}
 
 -- Of an attach that makes no commit it is known on the devices alone.
 pub early_known : (setting now : Setting) (last next : Kept) (begun onward : List Kept) (disk : Disk) (run : AttachRun)
@@ -15,6 +15,23 @@ early_known setting now last next begun onward disk (Reads ring) before holds = 
 early_known setting now last next begun onward disk (Checked ring) before holds = holds
 early_known setting now last next begun onward disk (Joins join) before holds = absurd before
 early_known setting now last next begun onward disk (Signs run because) before holds = absurd before
+
+-- Where the core has no commit under way, none stands,
+pub stands_idle : {world : World} {script : Script} {past : Past} {before : CoreState} {items : List Item}
+    {clients : List Client} (runs : Runs world script past before items clients) → before.core.committing ≡ None
+    → (runs.commit ≡ None) × Stands (setting_now runs) runs.last runs.begun (map_of world.handed world.opening items)
+    runs.contents (calls_under_way clients) None before
+stands_idle {before = before} {clients = clients} runs idle =
+    let none = no_commit (setting_now runs) runs.last runs.begun (calls_under_way clients) runs.commit before idle
+    runs.stands.groups in
+    (none, rw none at runs.stands)
+
+-- and no client makes one.
+pub nobody_commits : {script : Script} {core : Core} {clients : List Client} (index : ℕ) → AreGoing script core clients
+    → core.committing ≡ None → OnlyIt clients index
+nobody_commits index going idle other its under is makes =
+    let found = run_of under.work makes in
+    absurd (none_some (sym idle ∙ ((going.each other its under is).commit found.0 found.1).1))
 
 -- It is known of others' attaches still where devices of the pool alone were called.
 pub beside : {world : World} {script : Script} {past : Past} {before : CoreState} {items : List Item}
@@ -130,16 +147,40 @@ module _ {world : World} {script : Script} {past : Past} {before : CoreState} {i
             (rw disk (runs.attaches other its under run is does)),
       )
 
-  -- The groups are as they were, and so is the commit.
-  beside_commit : (nows : ℕ → List ℕ) → ((other : ℕ) → other ≢ index → nows other ≡ runs.contents other)
-      → IsRecorded shown after.disk → IsNoCommit old.under_way → IsNoCommit client.under_way
-      → ((under : UnderWay) → client.under_way ≡ Some under
-      → IsKnown world script items runs.item runs.reach runs.last runs.begun after.disk (nows index) index client under)
-      → OthersKnown runs.reach runs.begun
-      → Stands (setting_now runs) runs.last runs.begun map nows (calls_under_way news) runs.commit after
+  -- A call is under way since then: since it was before, or since now.
+  abbrev IsSince : ℕ → Type 0
+  IsSince at = (at ≡ length items) ⊎ ((under : UnderWay) × (old.under_way ≡ Some under) × (at ≡ under.at))
+
+  -- The client has a call under way, with these bytes of its block.
+  has_under : {number at : ℕ} {does : Work} {begun : List Kept} {commit : Option CommitRun} (reach : ℕ)
+      (nows : ℕ → List ℕ) → IsRecorded (shown_of begun commit) after.disk → IsTheirs news commit
+      → client ≡ record { begun = number; under_way = Some (record { at = at; work = does }) } → IsSince at
+      → HasBegunBy world items runs.item begun at does
+      → ((asked : ScriptCall) → slice_get (calls_of script index) (number - 1) ≡ Some asked
+      → HasContent world items asked at (nows index) does) → IsAttached reach begun does
+      → ((other : ℕ) → other ≢ index → nows other ≡ runs.contents other) → OthersKnown reach begun
+      → Stands (record world.setting { reach = reach }) runs.last begun map nows (calls_under_way news) commit after
       → Runs world script past after items news
-  beside_commit nows same recorded was_none is_none mine others stands = runs_with after was changes recorded stands
-      (search commit_stays) mine (λ other its under apart is. rw (same other apart) (others other its under apart is))
+  has_under {number} {at} {does} {begun} reach nows recorded theirs client_is since group content attached same others
+      stands = runs_with after was changes recorded stands theirs
+      (the_one (IsKnown world script items runs.item reach runs.last begun after.disk (nows index) index client)
+      (ap (λ (c : Client). c.under_way) client_is) (mine, attached))
+      (λ other its under apart is. rw (same other apart) (others other its under apart is))
+    where
+      mine : IsClient world script items runs.item begun (nows index) index client (record { at = at; work = does })
+      mine = ⊎_elim
+          (λ new. record {
+            at = (search arith, omega arith);
+            after = λ place entry there caller. search (slice_get_within, arith);
+            group = group;
+            content = search arith;
+          })
+          (λ before. let known = runs.each index old before.0 (record { there = was; under_way = before.1 }) in record {
+            at = rw before.2 known.at;
+            after = rw before.2 known.after;
+            group = group;
+            content = search arith;
+          }) since
 
   -- A call goes on that makes no commit.
   pub goes_on : (under : UnderWay) {does : Work} → IsAttached runs.reach runs.begun does
@@ -151,61 +192,29 @@ module _ {world : World} {script : Script} {past : Past} {before : CoreState} {i
       → HasContent world items asked under.at (runs.contents index) does)
       → Stands (setting_now runs) runs.last runs.begun map runs.contents (calls_under_way news) runs.commit after
       → Runs world script past after items news
-  goes_on under {does = does} attached others later since old_is client_is was_no_commit no_commit has =
-      let mine = runs.each index old under (record { there = was; under_way = old_is }) in
-      beside_commit runs.contents (λ other apart. refl) (recorded_goes runs.recorded later since)
-      (work_no_commit old_is was_no_commit) (work_no_commit going no_commit)
-      (the_one (IsKnown world script items runs.item runs.reach runs.last runs.begun after.disk (runs.contents index)
-      index client) going (
-        record {
-          at = mine.at;
-          after = mine.after;
-          group = search (group_free, no_commit);
-          content = search arith;
-        },
-        attached,
-      )) others
-    where
-      going : client.under_way ≡ Some (record { at = under.at; work = does })
-      going = cc
+  goes_on under attached others later since old_is client_is was_no_commit no_commit has = has_under runs.reach
+      runs.contents (recorded_goes runs.recorded later since) (commit_stays was changes runs.commit
+      (work_no_commit old_is was_no_commit) (work_no_commit (ap (λ (c : Client). c.under_way) client_is) no_commit)
+      runs.theirs) client_is (inr (under, old_is, refl)) (search (group_free, no_commit)) has attached
+      (λ other apart. refl) others
 
-  -- A commit is under way now, of this group, which began with the journal or when the call had: it is its client's
-  -- work. What images can show is recorded.
+  -- A commit is under way by now, of this group: it is its client's work. What images can show is recorded.
   pub commit_runs : {number at : ℕ} {does : Work} {begun : List Kept} (reach : ℕ) (commit : CommitRun)
       → IsRecorded (shown_in begun commit.stage) after.disk → commit_in does ≡ Some commit
       → client ≡ record { begun = number; under_way = Some (record { at = at; work = does }) }
-      → (at ≡ length items) ⊎ ((under : UnderWay) × (old.under_way ≡ Some under) × (at ≡ under.at))
-      → HasBegunBy world items runs.item begun at does
+      → IsSince at → HasBegunBy world items runs.item begun at does
       → ((asked : ScriptCall) → HasContent world items asked at (runs.contents index) does)
       → IsAttached reach begun does → OthersKnown reach begun
       → Stands (record world.setting { reach = reach }) runs.last begun map runs.contents (calls_under_way news)
       (Some commit) after → Runs world script past after items news
-  commit_runs {number} {at} {does} {begun} reach commit recorded does_is client_is since group content attached others
-      stands = runs_with after was changes recorded stands
-      (index, client, now, record { there = changes.there; under_way = going }, does_is)
-      (the_one (IsKnown world script items runs.item reach runs.last begun after.disk (runs.contents index) index
-      client) going (mine, attached)) others
-    where
-      now : UnderWay
-      now = record { at = at; work = does }
-
-      going : client.under_way ≡ Some now
-      going = cc
-
-      mine : IsClient world script items runs.item begun (runs.contents index) index client now
-      mine = ⊎_elim
-          (λ new. record {
-            at = (search arith, omega arith);
-            after = λ place entry there caller. search (slice_get_within, arith);
-            group = group;
-            content = λ asked is. content asked;
-          })
-          (λ before. let known = runs.each index old before.0 (record { there = was; under_way = before.1 }) in record {
-            at = rw before.2 known.at;
-            after = rw before.2 known.after;
-            group = group;
-            content = λ asked is. content asked;
-          }) since
+  commit_runs {at = at} {does} reach commit recorded does_is client_is since group content attached =
+      has_under reach runs.contents recorded (
+        index,
+        client,
+        record { at = at; work = does },
+        record { there = changes.there; under_way = ap (λ (c : Client). c.under_way) client_is },
+        does_is,
+      ) client_is since group (λ asked is. content asked) attached (λ other apart. refl)
 
   -- It begins in a turn which calls no device. No image shows its group.
   pub commit_begins : {number : ℕ} {does : Work} (reach : ℕ) (run : CommitRun) {next : Kept} → runs.begun ≡ []
@@ -230,26 +239,17 @@ module _ {world : World} {script : Script} {past : Past} {before : CoreState} {i
       → HasContent world items asked (length items) content does)
       → Stands (setting_now runs) runs.last runs.begun map (with_content runs.contents index content)
       (calls_under_way news) runs.commit after → Runs world script past after items news
-  begins content does attached idle disk client_is no_commit has = beside_commit
-      (with_content runs.contents index content) (with_other runs.contents index content) (search arith)
-      (idle_no_commit idle) (work_no_commit going no_commit)
-      (the_one (IsKnown world script items runs.item runs.reach runs.last runs.begun after.disk
-      (with_content runs.contents index content index) index client) going (
-        rw (with_own runs.contents index content) (record {
-          at = (search arith, omega arith);
-          after = λ place entry there caller. search slice_get_within;
-          group = search (group_free, no_commit);
-          content = search arith;
-        }),
-        attached,
-      )) (still_known disk)
-    where
-      going : client.under_way ≡ Some (record { at = length items; work = does })
-      going = cc
+  begins content does attached idle disk client_is no_commit has = has_under runs.reach
+      (with_content runs.contents index content) (search arith) (commit_stays was changes runs.commit
+      (idle_no_commit idle) (work_no_commit (ap (λ (c : Client). c.under_way) client_is) no_commit) runs.theirs)
+      client_is (inl refl) (search (group_free, no_commit))
+      (λ asked is. rw (with_own runs.contents index content) (has asked (search arith))) attached
+      (with_other runs.contents index content) (still_known disk)
 
   -- A call waits.
   pub waits : old.under_way ≡ None → after.disk ≡ before.disk → client.under_way ≡ None
       → Stands (setting_now runs) runs.last runs.begun map runs.contents (calls_under_way news) runs.commit after
       → Runs world script past after items news
-  waits idle disk still = beside_commit runs.contents (λ other apart. refl) (search arith)
-      (idle_no_commit idle) (idle_no_commit still) (search no_one) (still_known disk)
+  waits idle disk still stands = runs_with after was changes {reach = runs.reach} (search arith) stands
+      (commit_stays was changes runs.commit (idle_no_commit idle) (idle_no_commit still) runs.theirs) (search no_one)
+      (still_known disk)

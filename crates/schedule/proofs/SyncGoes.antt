@@ -1,5 +1,5 @@
 -- What a commit of a sync or of a copy comes to that goes on or ends, among the other clients' calls.
-use Rattle.schedule.proofs.Words.{◌≡◌, inr, IsWithin, HasTooManyOut, held_by, Turns, group_with, ℕ, ◌-◌, List, [], ◌∷◌, length, Some, None, refl, sym, ◌∙◌, ap, subst, arith, append_assoc, slice_get, false≢true, Uber, Answer, Kind, Entry, Group, Map, map_of, Kept, Point, World, CommitRun, ScriptCall, Script, calls_of, Rests, More, Done, Core, CoreState, IsCommitOf, StepsCommit, AnswersGroup, Stands, TurnGoesOn, AreCallsOf, attach_at_answer, few_out, commit_ends_calls, commit_ends_stands, commit_steps_calls, commit_steps_stands, commit_steps_since, Client, UnderWay, Work, Recorded, HasBegun, IsWorkOf, AreGoing, Runs, call_of_client, calls_under_way, commit_in, held_under, setting_now, begun_at, turns_of, Station, LeavesGoing, group_for, TakesTurn, Comes, Past}
+use Rattle.schedule.proofs.Words.{◌≡◌, inr, IsWithin, HasTooManyOut, held_by, group_with, ℕ, ◌-◌, List, [], ◌∷◌, length, Some, None, refl, sym, ◌∙◌, ap, subst, arith, append_assoc, slice_get, false≢true, Uber, Answer, Kind, Entry, Group, Map, map_of, Kept, Point, World, CommitRun, ScriptCall, Script, calls_of, Rests, More, Done, Core, CoreState, IsCommitOf, StepsCommit, AnswersGroup, Stands, TurnGoesOn, AreCallsOf, attach_at_answer, few_out, commit_ends_calls, commit_ends_stands, commit_steps_calls, commit_steps_stands, commit_steps_since, Client, UnderWay, Work, Recorded, HasBegun, IsWorkOf, AreGoing, Runs, call_of_client, calls_under_way, commit_in, held_under, setting_now, begun_at, Station, LeavesGoing, group_for, TakesTurn, Past}
 use Rattle.core_state.specs.declared.answer.Answer.TheVariants as answer
 use Rattle.core_state.specs.declared.answer.Kind.TheVariants as kind
 use Rattle.core_state.specs.declared.item.Group.{Group as GroupItem}
@@ -18,7 +18,7 @@ use Rattle.schedule.proofs.RunsGoOn.{beside_known, commit_runs}
 use Rattle.schedule.proofs.RunsEnd.{commit_ends as runs_ends, commit_is_cut, commit_makes}
 use Rattle.schedule.proofs.Recording.{recorded_goes}
 use Rattle.schedule.proofs.Syncs.{halves_go}
-use Rattle.schedule.proofs.TurnComes.{GoesFrom, comes, comes_further, comes_last, halves_recorded, idle_now, its_answered, its_asked, its_commit, its_going, its_stands, last_entry, only, whole_recorded}
+use Rattle.schedule.proofs.TurnComes.{GoesFrom, ItComes, comes, comes_further, comes_last, halves_recorded, idle_now, its_answered, its_asked, its_commit, its_going, its_stands, last_entry, only, turns_left, turns_was, whole_recorded}
 
 module _ {script : Script} {actor : ℕ} {before after : Station} {clients news : List Client} {asked : Kind}
     {does : CommitRun → Work} (makes : MakesGroups asked does) {call : ScriptCall}
@@ -26,20 +26,8 @@ module _ {script : Script} {actor : ℕ} {before after : Station} {clients news 
     (does_is : under.work ≡ does run) (under_is : before.client.under_way ≡ Some under)
     (is : slice_get (calls_of script actor) (before.client.begun - 1) ≡ Some call)
     (goes : TurnGoesOn before.state after.state) where
-  abbrev old : Core
-  old = before.state.core
-
-  abbrev now : Core
-  now = after.state.core
-
-  abbrev was : Turns
-  was = turns_of before.state before.items clients
-
-  abbrev left : Turns
-  left = turns_of after.state after.items news
-
-  abbrev ItComes : Type 0
-  ItComes = Comes script actor before after clients news
+  open before.state use {core as old}
+  open after.state use {core as now}
 
   abbrev from : GoesFrom script actor before after clients news call under (does run)
   from = record { takes = takes; does_is = does_is; under_is = under_is; is = is }
@@ -70,7 +58,7 @@ module _ {script : Script} {actor : ℕ} {before after : Station} {clients news 
 
   -- It goes on.
   pub commit_goes_further : (next : CommitRun) → StepsCommit before.state run after.state (More next)
-      → LeavesGoing actor call before after under (More (does next)) → ItComes
+      → LeavesGoing actor call before after under (More (does next)) → ItComes takes
   commit_goes_further next steps further = comes_further from (does next)
       (goes_for goes) further (makes.made next) (commits_on takes.was takes.changes takes.schedule.going
       (search (same_calls, none, commit_steps_calls)) next call (search (keeps_attach, arith))
@@ -159,16 +147,16 @@ module _ {script : Script} {actor : ℕ} {before after : Station} {clients news 
   -- A copy goes on behind its group, which is listed alone.
   pub group_made : asked ≡ kind.Copy → (whose number : ℕ) → old.committing ≡ Some whose
       → AnswersGroup before.state run after.state number
-      → LeavesGoing actor call before after under (More (work.Copy (Rests whose (Some number)))) → ItComes
+      → LeavesGoing actor call before after under (More (work.Copy (Rests whose (Some number)))) → ItComes takes
   group_made copy whose number committing answers further = comes takes (Group (group answers) ∷ []) refl
-      (goes_for goes) further.0 (fit_group was left (group answers) further.0)
+      (goes_for goes) further.0 (fit_group (turns_was takes) (turns_left takes) (group answers) further.0)
       (λ world past handed within listed runs.
       let failed = within (few_out old answers.few) in
       commit_makes after.state takes.was takes.changes runs under (its_group runs) (whole answers runs failed)
       (stands answers runs failed).groups.begun_is only_it (disk_is answers) (group_is answers runs failed)
       (rw (same_calls none) (stood answers runs failed)) (λ attached. attached) further.1 under_is false≢true
       (λ run same. cc) (λ asked_call asked_is. tt) listed)
-      (full_made script was left (group answers) further.0)
+      (full_made script (turns_was takes) (turns_left takes) (group answers) further.0)
       (commit_ends takes.was takes.changes takes.schedule.going (ended_are answers none) (keeps answers) only_it
       was_no_attach (the_one (λ its. IsWorkOf script now actor after.client its.work) rests_now (record {
         hold = some_is (sym committing ∙ of_core.1);
@@ -196,10 +184,11 @@ module _ {script : Script} {actor : ℕ} {before after : Station} {clients news 
 
   -- Its group is answered, and listed before the entry of its call.
   synced : asked ≡ kind.Sync → (number : ℕ) → AnswersGroup before.state run after.state number
-      → LeavesGoing actor call before after under (Done (answer.Synced number)) → ItComes
+      → LeavesGoing actor call before after under (Done (answer.Synced number)) → ItComes takes
   synced sync number answers leaves = comes takes (Group (group answers) ∷ CallItem entry ∷ [])
       (append_assoc before.items (Group (group answers) ∷ []) (CallItem entry ∷ [])) (goes_for goes) leaves.0
-      (fit_both was left entry (fits (for_call.0 ∙ sync) (λ listed told. cc) (λ reached told. cc)
+      (fit_both (turns_was takes) (turns_left takes) entry (fits (for_call.0 ∙ sync) (λ listed told. cc)
+      (λ reached told. cc)
       (subst IsPlainKind (sym (for_call.0 ∙ sync)) tt)) goes.out.still (group answers) leaves.0)
       (λ world past handed within listed runs.
       let failed = within (few_out old answers.few) in
@@ -210,7 +199,7 @@ module _ {script : Script} {actor : ℕ} {before after : Station} {clients news 
       (λ attached. absurd attached)
       (sync_right world before.items (group answers) entry after.state.disk (for_call.0 ∙ sync) refl mine.at.0
       mine.after) (for_call.0 ∙ sync) refl listed)
-      (full_synced script was left (group answers) entry leaves.0 (λ full. cc))
+      (full_synced script (turns_was takes) (turns_left takes) (group answers) entry leaves.0 (λ full. cc))
       (commit_ends takes.was takes.changes takes.schedule.going (ended_are answers none) (keeps answers) only_it
       was_no_attach (no_one (λ its. IsWorkOf script now actor after.client its.work)
       (idle_now from (answer.Synced number) leaves)) (λ by. none_now answers))
@@ -224,9 +213,10 @@ module _ {script : Script} {actor : ℕ} {before after : Station} {clients news 
 
   -- It is cut short.
   pub cut : (out : ℕ) → StepsCommit before.state run after.state (Done (answer.TooManyFailed out))
-      → LeavesGoing actor call before after under (Done (answer.TooManyFailed out)) → ItComes
+      → LeavesGoing actor call before after under (Done (answer.TooManyFailed out)) → ItComes takes
   cut out steps leaves = comes_last from given leaves (goes_for goes) leaves.0
-      (search (group_fits, given, same_out, no_limit, arith)) (λ full. cc)
+      (group_fits old call.kind given (rw for_call.0 makes.kind) tt (λ listed told. (steps.0, same_out (cc)))
+      (λ reached told. cc) tt) (λ full. cc)
       (subst (λ (s : CoreState). AreGoing script s.core news) (sym steps.2)
       (commit_ends takes.was takes.changes takes.schedule.going (rw same takes.schedule.going.are)
       (keeps_attach refl refl refl) only_it was_no_attach
@@ -247,11 +237,8 @@ module _ {script : Script} {actor : ℕ} {before after : Station} {clients news 
       same : calls_under_way news ≡ calls_under_way clients
       same = same_calls (ap held_under (idle_now from given leaves))
 
-      no_limit : (reached : ℕ) → answer.TooManyFailed out ≡ answer.Limit reached → ⊥
-      no_limit reached same = cc
-
   pub sync_ends : asked ≡ kind.Sync → (given : Answer) → StepsCommit before.state run after.state (Done given)
-      → LeavesGoing actor call before after under (Done given) → ItComes
+      → LeavesGoing actor call before after under (Done given) → ItComes takes
   sync_ends sync (answer.Synced number) = synced sync number
   sync_ends sync (answer.TooManyFailed out) = cut out
   sync_ends sync other = λ steps. absurd steps

@@ -1,5 +1,5 @@
 -- What a turn comes to, once it is known what it did to the calls under way and to what stood.
-use Rattle.schedule.proofs.Words.{◌≡◌, CoreState, false≢true, ⊤, at_disk, Recorded, HasBegun, AwaitsAttach, Stage, CommitRun, IsCommitOf, shown_in, WorkGoesOn, IsAttachRunOf, HoldsAttach, PutBytes, commit_in, Commits, ◌≢◌, ℕ, ◌+◌, ◌-◌, ◌≤◌, List, [], ◌∷◌, ◌++◌, length, Some, None, refl, sym, ◌∙◌, ap, subst, arith, slice_get, cases_eq, append-nil, slice_get_within, Gains, count_of, IsWithin, Answer, Kind, Entry, Item, Map, map_of, map_after_answer, World, ScriptCall, Script, calls_of, AttachRun, Core, HoldingCall, AreCallsOf, Stands, TurnGoesOn, shown_of, More, Done, turn_still, Client, UnderWay, Work, ClientsAreAnswered, GoesOnFor, IsWorldOf, turns_of, Turns, IsListedWith, AreGoing, HasContent, IsGoing, IsHoldOf, IsWorkFor, IsWorkOf, MakesCommit, Runs, call_of_client, calls_under_way, held_by, setting_now, HasDropCause, IsRightNext, Station, LeavesBegun, LeavesGoing, entry_for, made_in, TakesTurn, Comes, Past}
+use Rattle.schedule.proofs.Words.{◌≡◌, WhyDropped, CoreState, false≢true, ⊤, at_disk, Recorded, HasBegun, AwaitsAttach, Stage, CommitRun, IsCommitOf, shown_in, WorkGoesOn, IsAttachRunOf, HoldsAttach, PutBytes, commit_in, Commits, ◌≢◌, ℕ, ◌+◌, ◌-◌, ◌≤◌, List, [], ◌∷◌, ◌++◌, length, Some, None, refl, sym, ◌∙◌, ap, subst, arith, slice_get, cases_eq, append-nil, slice_get_within, Gains, count_of, IsWithin, Answer, Kind, Entry, Item, Map, map_of, map_after_answer, World, ScriptCall, Script, calls_of, AttachRun, HoldingCall, AreCallsOf, Stands, TurnGoesOn, shown_of, More, Done, turn_still, Client, UnderWay, Work, ClientsAreAnswered, GoesOnFor, IsWorldOf, turns_of, Turns, IsListedWith, AreGoing, HasContent, IsGoing, IsHoldOf, IsWorkFor, IsWorkOf, MakesCommit, Runs, call_of_client, calls_under_way, held_by, setting_now, HasDropCause, IsRightNext, Station, LeavesBegun, LeavesGoing, entry_for, made_in, TakesTurn, Comes, Past}
 use Rattle.core_state.specs.declared.answer.Answer.TheVariants as answer
 use Rattle.core_state.specs.declared.item.Item.TheVariants.{Call as CallItem}
 use Rattle.schedule.specs.declared.client.Work.TheVariants as work
@@ -45,23 +45,24 @@ plain_no_commit other plain makes = false≢true makes
 
 module _ {script : Script} {actor : ℕ} {before after : Station} {clients news : List Client}
     (takes : TakesTurn script actor before after clients news) where
-  abbrev old : Core
-  old = before.state.core
+  open before.state use {core as old}
+  open after.state use {core as now}
 
-  abbrev now : Core
-  now = after.state.core
+  abbrev pub turns_was : Turns
+  turns_was = turns_of before.state before.items clients
 
-  abbrev was : Turns
-  was = turns_of before.state before.items clients
+  abbrev pub turns_left : Turns
+  turns_left = turns_of after.state after.items news
 
-  abbrev left : Turns
-  left = turns_of after.state after.items news
-
-  abbrev ItComes : Type 0
+  abbrev pub ItComes : Type 0
   ItComes = Comes script actor before after clients news
 
-  abbrev FitsNow : Kind → Answer → Type 0
-  FitsNow = Fits old before.state.disk.devices (HasDropCause was left)
+  -- why no device is brought, as it is known after the turn
+  abbrev pub Dropped : WhyDropped → Type 0
+  Dropped = HasDropCause turns_was turns_left
+
+  abbrev pub FitsNow : Kind → Answer → Type 0
+  FitsNow = Fits old before.state.disk.devices Dropped
 
   -- what is said of all that may stand before the turn
   abbrev pub OfRuns : ((world : World) (past : Past) → Runs world script past before.state before.items clients
@@ -95,8 +96,8 @@ module _ {script : Script} {actor : ℕ} {before after : Station} {clients news 
 
   -- A turn that lists these items.
   pub comes : {items : List Item} (more : List Item) → items ≡ before.items ++ more
-      → GoesOnFor script before.state after.state → after.items ≡ items → FitSince was left
-      → RunsOn script before after clients news items → FullStays script was left → AreGoing script now news
+      → GoesOnFor script before.state after.state → after.items ≡ items → FitSince turns_was turns_left
+      → RunsOn script before after clients news items → FullStays script turns_was turns_left → AreGoing script now news
       → ClientsAreAnswered script news items → ItComes
   comes more grown goes items_are fit runs full going answered = record {
     come = came refl goes takes.space takes.numbers takes.dropped more (items_are ∙ grown) fit
@@ -116,7 +117,19 @@ module _ {script : Script} {actor : ℕ} {before after : Station} {clients news 
       → ((under : UnderWay) → after.client.under_way ≡ Some under → 1 ≤ after.client.begun)
       → AreGoing script now news → RunsOn script before after clients news before.items → ItComes
   comes_on goes items same few some going runs = comes [] (sym (append-nil before.items)) goes items
-      (fit_same was left items) runs (full_same script was left items) going (search (answers_same, few, arith))
+      (fit_same turns_was turns_left items) runs (full_same script turns_was turns_left items) going
+      (search (answers_same, few, arith))
+
+  -- One after which the client's next call is under way.
+  pub comes_under : {number at : ℕ} {does : Work} → GoesOnFor script before.state after.state
+      → after.items ≡ before.items
+      → after.client ≡ record { begun = number; under_way = Some (record { at = at; work = does }) }
+      → number ≡ answered before.client + 1 → number ≤ length (calls_of script actor) → AreGoing script now news
+      → RunsOn script before after clients news before.items → ItComes
+  comes_under {number = number} goes items client_is number_is low =
+      let less : number - 1 ≡ answered before.client = omega (arith, number_is) in
+      comes_on goes items (ap answered client_is ∙ less) (rw client_is low)
+      (λ under is. rw client_is (omega (arith, number_is)))
 
   -- A turn that lists the answer of the client's next call. Where that is that the table is full, there are too many
   -- ids.
@@ -125,7 +138,7 @@ module _ {script : Script} {actor : ℕ} {before after : Station} {clients news 
       → GoesOnFor script before.state after.state
       → after.items ≡ before.items ++ CallItem (entry_for call actor number at given) ∷ []
       → after.client ≡ record { begun = number; under_way = None }
-      → FitsNow call.kind given → (given ≡ answer.Full → HasManyAt script was) → AreGoing script now news
+      → FitsNow call.kind given → (given ≡ answer.Full → HasManyAt script turns_was) → AreGoing script now news
       → RunsOn script before after clients news (before.items ++ CallItem (entry_for call actor number at given) ∷ [])
       → ItComes
   comes_answered {call = call} {number = number} at {given = given} number_is next goes items client_is fit full going
@@ -172,7 +185,7 @@ module _ {script : Script} {actor : ℕ} {before after : Station} {clients news 
     module _ {call : ScriptCall} (next : slice_get (calls_of script actor) before.client.begun ≡ Some call) where
       -- A call that is answered in its first turn.
       pub comes_at_once : {given : Answer} → LeavesBegun actor call before after (Done given)
-          → FitsNow call.kind given → (given ≡ answer.Full → HasManyAt script was)
+          → FitsNow call.kind given → (given ≡ answer.Full → HasManyAt script turns_was)
           → AreCallsOf now (calls_under_way clients)
           → OfRuns (λ world past. IsListedNow (calls_under_way clients) (first_entry call actor before given)) → ItComes
       comes_at_once listed fit full are stands =
@@ -206,11 +219,8 @@ module _ {script : Script} {actor : ℕ} {before after : Station} {clients news 
         going_now : after.client.under_way ≡ Some (record { at = length before.items; work = does })
         going_now = cc
 
-        begun_is : after.client.begun ≡ before.client.begun + 1
-        begun_is = cc
-
         one_less : after.client.begun - 1 ≡ before.client.begun
-        one_less = omega (arith, begun_is)
+        one_less = omega (arith, ap (λ (c : Client). c.begun) begins.1)
 
         -- It comes to the others' calls.
         pub held_gains : Gains (calls_under_way clients) (calls_under_way news) held
@@ -224,10 +234,8 @@ module _ {script : Script} {actor : ℕ} {before after : Station} {clients news 
             (map_of world.handed world.opening before.items) (calls_under_way news)) → ItComes
         comes_begun plain its asked are stands =
             let no_commit = plain_no_commit does plain in
-            comes_on still begins.0
-            (answered_going after.client going_now ∙ one_less ∙ sym (answered_idle idle))
-            (search (slice_get_within, begun_is, arith))
-            (λ its_under is. omega (arith, begun_is))
+            comes_under still begins.0 begins.1 (ap (λ (n : ℕ). n + 1) (sym (answered_idle idle)))
+            (search (slice_get_within, arith))
             (going_goes takes.was takes.changes takes.schedule.going are (leaves_commit leaves) (idle_no_commit idle)
             (idle_no_attach idle) (the_one (λ its_under. IsWorkOf script now actor after.client its_under.work)
             going_now
@@ -279,36 +287,9 @@ module _ {script : Script} {actor : ℕ} {before after : Station} {clients news 
   pub comes_further : (next : Work) → GoesOnFor script before.state after.state
       → LeavesGoing actor call before after under (More next) → made_in next ≡ None
       → AreGoing script after.state.core news → RunsOn script before after clients news before.items
-      → Comes script actor before after clients news
-  comes_further next goes further none = comes_on takes goes (cc) (cc)
-      (omega (arith, takes.schedule.answered.few actor before.client takes.was, begun_is))
-      (search (under_is, begun_is, arith))
-    where
-      begun_is : after.client.begun ≡ before.client.begun
-      begun_is = cc
-
-  -- It is answered.
-  module _ (given : Answer) (ended : LeavesGoing actor call before after under (Done given)) where
-    abbrev pub last_entry : Entry
-    last_entry = entry_for call actor before.client.begun under.at given
-
-    pub idle_now : after.client.under_way ≡ None
-    idle_now = cc
-
-    -- With its entry the journal answers one call more.
-    pub its_answered : {items : List Item} → ClientsAreAnswered script clients items
-        → ClientsAreAnswered script news (items ++ CallItem last_entry ∷ [])
-    its_answered were = answers_call takes.changes takes.was (search arith)
-        (no_one (λ its. 1 ≤ after.client.begun) idle_now) were last_entry (ap answered ended.1 ∙ its_number) its_place
-        refl its_number refl refl
-
-    -- Its entry alone is listed.
-    pub comes_last : GoesOnFor script before.state after.state → after.items ≡ before.items ++ CallItem last_entry ∷ []
-        → FitsNow takes call.kind given → given ≢ answer.Full → AreGoing script after.state.core news
-        → RunsOn script before after clients news (before.items ++ CallItem last_entry ∷ [])
-        → Comes script actor before after clients news
-    comes_last goes listed fit other = comes_answered takes under.at its_number its_place goes listed ended.1 fit
-        (λ full. absurd (other full))
+      → ItComes takes
+  comes_further next goes further none = comes_under takes goes (cc) further.1 its_number
+      (takes.schedule.answered.few actor before.client takes.was)
 
   -- It makes no commit, and is no attach.
   module _ (plain : IsPlainWork does) where
@@ -347,7 +328,7 @@ module _ {script : Script} {actor : ℕ} {before after : Station} {clients news 
           before.state.disk after.state.disk × (HasContent world before.items call under.at (runs.contents actor) does
           → HasContent world before.items call under.at (runs.contents actor) next)
           × StandsNow takes runs runs.contents (map_of world.handed world.opening before.items)
-          (calls_under_way news)) → Comes script actor before after clients news
+          (calls_under_way news)) → ItComes takes
       comes_working goes none_made keeps its asked are stands =
           let no_commit = plain_no_commit next next_plain in
           comes_further next (goes_for goes) further none_made
@@ -362,30 +343,48 @@ module _ {script : Script} {actor : ℕ} {before after : Station} {clients news 
           (λ makes. plain_no_commit does plain (rw does_is at makes)) no_commit
           (λ other other_is. rw (← some_is (sym is ∙ other_is)) (now.1 (its_content runs))) now.2)
 
-    -- It is answered.
-    module _ (given : Answer) (ended : LeavesGoing actor call before after under (Done given)) where
-      -- If it held sectors, the others' calls are left.
-      pub held_gone : {held : HoldingCall} → held_by does ≡ held ∷ []
-          → Gains (calls_under_way news) (calls_under_way clients) held
-      held_gone holds = call_ends takes.was takes.changes (cc) (cc)
+  -- It is answered.
+  module _ (given : Answer) (ended : LeavesGoing actor call before after under (Done given)) where
+    abbrev pub last_entry : Entry
+    last_entry = entry_for call actor before.client.begun under.at given
 
-      pub comes_finished : TurnGoesOn before.state after.state
-          → after.items ≡ before.items ++ CallItem (last_entry given ended) ∷ []
-          → LeavesPool before.state.core after.state.core → after.state.disk ≡ before.state.disk
-          → FitsNow takes call.kind given → given ≢ answer.Full → AreCallsOf after.state.core (calls_under_way news)
-          → ((world : World) (past : Past) → IsWorldOf script world
-          → (runs : Runs world script past before.state before.items clients)
-          → IsListedNow takes (calls_under_way news) (last_entry given ended) runs)
-          → Comes script actor before after clients news
-      comes_finished goes listed leaves disk fit other are stands = comes_last given ended
-          (goes_for goes) listed fit other
-          (going_goes takes.was takes.changes takes.schedule.going are (leaves_commit leaves) was_none was_no_attach
-          (no_one (λ its. IsWorkOf script after.state.core actor after.client its.work) (idle_now given ended)))
-          (λ world past handed within with runs.
-          let now = stands world past handed runs in
-          runs_answer after.state takes.was takes.changes runs runs.commit runs.recorded refl
-          (idle_now given ended) disk
-          now.0 fit.of_kind with runs.theirs was_none now.1)
+    pub idle_now : after.client.under_way ≡ None
+    idle_now = cc
+
+    -- With its entry the journal answers one call more.
+    pub its_answered : {items : List Item} → ClientsAreAnswered script clients items
+        → ClientsAreAnswered script news (items ++ CallItem last_entry ∷ [])
+    its_answered were = answers_call takes.changes takes.was (search arith)
+        (no_one (λ its. 1 ≤ after.client.begun) idle_now) were last_entry (ap answered ended.1 ∙ its_number) its_place
+        refl its_number refl refl
+
+    -- Its entry alone is listed.
+    pub comes_last : GoesOnFor script before.state after.state → after.items ≡ before.items ++ CallItem last_entry ∷ []
+        → FitsNow takes call.kind given → given ≢ answer.Full → AreGoing script after.state.core news
+        → RunsOn script before after clients news (before.items ++ CallItem last_entry ∷ [])
+        → ItComes takes
+    comes_last goes listed fit other = comes_answered takes under.at its_number its_place goes listed ended.1 fit
+        (λ full. absurd (other full))
+
+    -- If it held sectors, the others' calls are left.
+    pub held_gone : {held : HoldingCall} → held_by does ≡ held ∷ []
+        → Gains (calls_under_way news) (calls_under_way clients) held
+    held_gone holds = call_ends takes.was takes.changes (cc) (cc)
+
+    pub comes_finished : IsPlainWork does → TurnGoesOn before.state after.state
+        → after.items ≡ before.items ++ CallItem last_entry ∷ [] → LeavesPool before.state.core after.state.core
+        → after.state.disk ≡ before.state.disk → FitsNow takes call.kind given → given ≢ answer.Full
+        → AreCallsOf after.state.core (calls_under_way news)
+        → ((world : World) (past : Past) → IsWorldOf script world
+        → (runs : Runs world script past before.state before.items clients)
+        → IsListedNow takes (calls_under_way news) last_entry runs) → ItComes takes
+    comes_finished plain goes listed leaves disk fit other are stands = comes_last (goes_for goes) listed fit other
+        (going_goes takes.was takes.changes takes.schedule.going are (leaves_commit leaves) (was_none plain)
+        (was_no_attach plain) (no_one (λ its. IsWorkOf script after.state.core actor after.client its.work) idle_now))
+        (λ world past handed within with runs.
+        let now = stands world past handed runs in
+        runs_answer after.state takes.was takes.changes runs runs.commit runs.recorded refl idle_now disk now.0
+        fit.of_kind with runs.theirs (was_none plain) now.1)
 
   -- It makes a commit.
   module _ {commit : CommitRun} (makes : commit_in does ≡ Some commit) where
@@ -400,34 +399,28 @@ module _ {script : Script} {actor : ℕ} {before after : Station} {clients news 
     pub its_commit : IsCommitOf before.state.core commit × (before.state.core.committing ≡ Some actor)
     its_commit = its_work.commit commit makes
 
-    -- the one that stands.
-    pub its_stands : {world : World} {past : Past} (runs : Runs world script past before.state before.items clients)
-        → Stands (setting_now runs) runs.last runs.begun (map_of world.handed world.opening before.items) runs.contents
-        (calls_under_way clients) (Some commit) before.state
-    its_stands runs = rw (← commit_of runs.commit its_going commit_is only runs.theirs) runs.stands
+    module _ {world : World} {past : Past} (runs : Runs world script past before.state before.items clients) where
+      -- the one that stands.
+      pub its_stands : Stands (setting_now runs) runs.last runs.begun (map_of world.handed world.opening before.items)
+          runs.contents (calls_under_way clients) (Some commit) before.state
+      its_stands = rw (← commit_of runs.commit its_going commit_is only runs.theirs) runs.stands
 
-    -- What the journal tells is of the groups that images can show,
-    pub its_recorded : {world : World} {past : Past} (runs : Runs world script past before.state before.items clients)
-        → Recorded world past before.items runs.item runs.last (shown_in runs.begun commit.stage) before.state.disk
-    its_recorded runs = rw (commit_of runs.commit its_going commit_is only runs.theirs) at runs.recorded
+      -- What the journal tells is of the groups that images can show,
+      pub its_recorded : Recorded world past before.items runs.item runs.last (shown_in runs.begun commit.stage)
+          before.state.disk
+      its_recorded = rw (commit_of runs.commit its_going commit_is only runs.theirs) at runs.recorded
 
-    -- in a turn in which it goes on,
-    pub halves_recorded : {world : World} {past : Past} {attached : Type 0}
-        (runs : Runs world script past before.state before.items clients)
-        → HasBegun world before.items runs.item runs.begun under.at attached
-        → (attached → AwaitsAttach world.calls before.items under.at) → (to : Stage) → HalvesGoOn commit.stage to
-        → Recorded world past before.items runs.item runs.last (shown_in runs.begun to) before.state.disk
-    halves_recorded runs begun awaits to goes =
-        recorded_halves begun awaits (begun_parity (its_stands runs)) commit.stage to goes (its_recorded runs)
+      module _ {attached : Type 0} (begun : HasBegun world before.items runs.item runs.begun under.at attached)
+          (awaits : attached → AwaitsAttach world.calls before.items under.at) where
+        -- in a turn in which it goes on,
+        pub halves_recorded : (to : Stage) → HalvesGoOn commit.stage to
+            → Recorded world past before.items runs.item runs.last (shown_in runs.begun to) before.state.disk
+        halves_recorded to goes =
+            recorded_halves begun awaits (begun_parity its_stands) commit.stage to goes its_recorded
 
-    -- and as it ends or is cut short.
-    pub whole_recorded : {world : World} {past : Past} {attached : Type 0}
-        (runs : Runs world script past before.state before.items clients)
-        → HasBegun world before.items runs.item runs.begun under.at attached
-        → (attached → AwaitsAttach world.calls before.items under.at)
-        → Recorded world past before.items runs.item runs.last runs.begun before.state.disk
-    whole_recorded runs begun awaits =
-        recorded_whole begun awaits (begun_parity (its_stands runs)) commit.stage (its_recorded runs)
+        -- and as it ends or is cut short.
+        pub whole_recorded : Recorded world past before.items runs.item runs.last runs.begun before.state.disk
+        whole_recorded = recorded_whole begun awaits (begun_parity its_stands) commit.stage its_recorded
 
 -- An attach goes on.
 module _ {script : Script} {actor : ℕ} {before after : Station} {clients news : List Client} {call : ScriptCall}
