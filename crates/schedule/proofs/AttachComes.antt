@@ -29,10 +29,10 @@ module _ {script : Script} {actor : ℕ} {before after : Station} {clients news 
       (ap (λ (n : ℕ). n + 1) (sym (answered_idle idle))) (search (slice_get_within, arith))
       (going_begins takes.was takes.changes takes.schedule.going
       (rw (same_calls, begins.rest) (attaching_calls old (Some actor) (calls_under_way clients)
-      takes.schedule.going.are)) begins.none.0 (cc) under run under_is refl
+      takes.schedule.going.are)) begins.none.0 (cc) under run (ap (λ (c : Client). c.under_way) leaves.1) refl
       (cc) (cc) (search (number, none_some, no_commit, same_attach, arith)))
       (λ world past handed within listed runs.
-      runs_begins after.state takes.was takes.changes runs (runs.contents actor) (work.Attach run)
+      runs_begins takes runs (runs.contents actor) (work.Attach run)
       (λ its its_is. rw (← same_attach its_is) (search (none_read, arith))) idle disk leaves.1
       (none_there no_commit) (λ asked is. tt)
       (rw (with_same runs.contents actor, same_calls) (subst (Stands (setting_now runs) runs.last runs.begun
@@ -42,9 +42,6 @@ module _ {script : Script} {actor : ℕ} {before after : Station} {clients news 
     where
       under : UnderWay
       under = record { at = length before.items; work = work.Attach run }
-
-      under_is : after.client.under_way ≡ Some under
-      under_is = cc
 
       number : after.client.begun - 1 ≡ before.client.begun
       number = omega (arith, ap (λ (c : Client). c.begun) leaves.1)

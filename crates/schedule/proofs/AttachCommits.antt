@@ -1,5 +1,5 @@
 -- What the turns of an attach come to that make its commit, while the group stays as it was begun.
-use Rattle.schedule.proofs.Words.{◌≡◌, ℕ, AreCallsOf, begun_at, length, held_under, inr, ℕ, ◌-◌, List, Option, Some, refl, ◌∙◌, ap, subst, slice_get, IsWithin, Stage, Lays, CommitRun, map_of, AwaitsAttach, World, WhyDropped, JoinRun, ScriptCall, Script, calls_of, AttachRun, Joins, Signs, More, HoldsAttach, IsAttachRunOf, OnlyGoOut, StepsJoin, attach_commit, IsCommitOf, StepsCommit, Core, HasTooManyOut, Stands, shown_in, join_drops_since, join_drops_stands, join_goes_since, join_goes_stands, few_out, commit_steps_since, commit_steps_stands, Client, UnderWay, Comes, TakesTurn, Past, HasBegun, HasBegunIn, Runs, calls_under_way, setting_now, LeavesGoing, Station, WorkGoesOn}
+use Rattle.schedule.proofs.Words.{◌≡◌, call_of_client, ℕ, AreCallsOf, begun_at, length, held_under, inr, ℕ, ◌-◌, List, Option, Some, refl, ◌∙◌, ap, subst, slice_get, IsWithin, Stage, Lays, CommitRun, map_of, AwaitsAttach, World, WhyDropped, JoinRun, ScriptCall, Script, calls_of, AttachRun, Joins, Signs, More, HoldsAttach, IsAttachRunOf, OnlyGoOut, StepsJoin, attach_commit, IsCommitOf, StepsCommit, Core, HasTooManyOut, Stands, shown_in, join_drops_since, join_drops_stands, join_goes_since, join_goes_stands, few_out, commit_steps_since, commit_steps_stands, Client, UnderWay, Comes, TakesTurn, Past, HasBegun, HasBegunIn, Runs, calls_under_way, setting_now, LeavesGoing, Station, WorkGoesOn}
 use Rattle.core_commit.specs.declared.commit_run.Stage.TheVariants.{Signs as Signing}
 use Rattle.join_commit.specs.declared.join_run.JoinStep.TheVariants as step
 use Rattle.core_turns.proofs.Frames.{calls_stay as core_calls}
@@ -25,8 +25,7 @@ module _ {script : Script} {actor : ℕ} {before after : Station} {clients news 
 
   -- It makes this commit by now, and holds no sectors still.
   pub attach_makes : {at : ℕ} (next : AttachRun) {made : CommitRun}
-      → WorkGoesOn (work.Attach run) before.state after.state
-      → OnlyIt clients actor → attach_commit next ≡ Some made
+      → WorkGoesOn (work.Attach run) before.state after.state → OnlyIt clients actor → attach_commit next ≡ Some made
       → begun_at (Some made) (attach_commit run) under.at (length before.items) ≡ at
       → LeavesGoing actor call before after under (More (work.Attach next)) → AreCallsOf now (calls_under_way clients)
       → IsAttachRunOf now next → IsCommitOf now made → now.attaching ≡ old.attaching → now.committing ≡ Some actor
@@ -37,7 +36,7 @@ module _ {script : Script} {actor : ℕ} {before after : Station} {clients news 
   attach_makes {at} next goes only_it makes at_is further are of of_commit attaching committing runs =
       comes_further from (work.Attach next) (attach_on from goes) further refl
       (attach_commits takes.was takes.changes takes.schedule.going (rw same are) (alone from) only_it refl of
-      (attaching ∙ (its_attach from).1) next_is makes tt
+      (attaching ∙ (its_attach from).1) (ap (λ (c : Client). c.under_way) client_is) makes tt
       (ap (λ (c : Client). slice_get (calls_of script actor) (c.begun - 1)) further.1 ∙ is) (its_asked from) of_commit
       committing) (runs same client_is)
     where
@@ -45,11 +44,8 @@ module _ {script : Script} {actor : ℕ} {before after : Station} {clients news 
           ≡ record { begun = before.client.begun; under_way = Some (record { at = at; work = work.Attach next }) }
       client_is = cc
 
-      next_is : after.client.under_way ≡ Some (record { at = at; work = work.Attach next })
-      next_is = cc
-
       same : calls_under_way news ≡ calls_under_way clients
-      same = attach_calls from (ap held_under next_is)
+      same = attach_calls from (ap call_of_client client_is)
 
   module _ {commit : CommitRun} (makes : attach_commit run ≡ Some commit) where
     -- The group begun is the attach's.
@@ -72,16 +68,15 @@ module _ {script : Script} {actor : ℕ} {before after : Station} {clients news 
         → LeavesGoing actor call before after under (More (work.Attach next))
         → Comes script actor before after clients news
     attach_steps goes next made next_makes few core of of_commit stands further = attach_makes next goes
-        (only from makes)
-        next_makes (cc) further (search core_calls) of of_commit (ap (λ (c : Core). c.attaching) core)
+        (only from makes) next_makes (cc) further (search core_calls) of of_commit (ap (λ (c : Core). c.attaching) core)
         (ap (λ (c : Core). c.committing) core ∙ (its_commit from makes).1)
         (λ same client_is world past handed within listed runs.
         let stood = stands world past runs (within (few_out old few)) in
-        commit_runs after.state takes.was takes.changes runs runs.reach made
+        commit_runs takes runs runs.reach made
         (recorded_goes (halves_recorded from makes runs (its_group runs) (λ awaits. awaits) made.stage stood.0)
         goes.0.later stood.1) next_makes client_is (inr (under, under_is, refl)) (rw next_makes (its_group runs))
         (λ asked. tt) (λ its its_is. rw (← same_attach its_is) stood.2)
-        (only_known after.state takes.was takes.changes runs runs.reach runs.begun (only from makes) (alone from))
+        (only_known takes runs runs.reach runs.begun (only from makes) (alone from))
         (rw same stood.3))
 
 -- ---- turn by turn
@@ -144,5 +139,4 @@ module _ {script : Script} {actor : ℕ} {before after : Station} {clients news 
   signs_on commit next because same does_is goes steps of = let from = begins_from does_is in
       attach_steps from refl goes (Signs next same) next refl steps.0 steps.2 of of.0.of
       (λ world past runs within.
-      let its = its_stands from refl runs in search
-      (halves_go, commit_steps_since, commit_steps_stands))
+      let its = its_stands from refl runs in search (halves_go, commit_steps_since, commit_steps_stands))

@@ -1,5 +1,5 @@
 -- What a turn of an attach comes to in which its commit is cut short, among the other clients' calls.
-use Rattle.schedule.proofs.Words.{◌≡◌, ap, held_under, ℕ, ◌-◌, List, Some, None, refl, sym, subst, slice_get, CommitRun, Answer, ScriptCall, Script, calls_of, AttachRun, Done, IsTooMany, StopsAttach, attach_commit, at_disk, HasTooManyOut, AreCallsOf, attaching_calls, attaching_stands, look_stands, since_read, Client, UnderWay, Comes, TakesTurn, calls_under_way, setting_now, LeavesGoing, Station, WorkGoesOn}
+use Rattle.schedule.proofs.Words.{◌≡◌, call_of_client, ap, held_under, ℕ, ◌-◌, List, Some, None, refl, sym, subst, slice_get, CommitRun, Answer, ScriptCall, Script, calls_of, AttachRun, Done, IsTooMany, StopsAttach, attach_commit, at_disk, HasTooManyOut, AreCallsOf, attaching_calls, attaching_stands, look_stands, since_read, Client, UnderWay, Comes, TakesTurn, calls_under_way, setting_now, LeavesGoing, Station, WorkGoesOn}
 use Rattle.core_state.specs.declared.answer.Answer.TheVariants as answer
 use Rattle.core_state.specs.declared.answer.Kind.TheVariants as kind
 use Rattle.core_turns.proofs.CommitStands.{commit_is_cut as cut_stands}
@@ -32,7 +32,8 @@ module _ {script : Script} {actor : ℕ} {before after : Station} {clients news 
       → Comes script actor before after clients news
   cut out many out_is leaves = comes_last from (answer.TooManyFailed out) leaves (attach_on from goes) leaves.0
       (attach_fits asked.0 tt (λ listed told. (many, cc)) (λ reached told. cc) tt)
-      (λ full. cc) (going_ends takes.was takes.changes takes.schedule.going are (alone from) (cc) idle
+      (λ full. cc) (going_ends takes.was takes.changes takes.schedule.going (rw (same, stops.core)
+      (attaching_calls old None (calls_under_way clients) takes.schedule.going.are)) (alone from) (cc) idle
       (only from makes) (λ its committing. subst HasTooManyOut (sym stops.core) many))
       (λ world past of_world within listed was.
       let runs = looked after.state.disk takes.schedule.going takes.is takes.still_lawful stops.unchanged was in
@@ -42,7 +43,7 @@ module _ {script : Script} {actor : ℕ} {before after : Station} {clients news 
       stops.unchanged.goes_on.later
       (λ groups time row. since_read (setting_now was) groups time before.state.disk after.state.disk stops.unchanged)
       in
-      commit_is_cut after.state takes.was takes.changes runs None whole refl idle refl
+      commit_is_cut takes runs None whole refl idle refl
       (refusal_right asked.0 tt tt) tt listed refl (only from makes)
       (rw same (rw stops.core (attaching_stands old None after.state.disk takes.is stood))))
     where
@@ -54,9 +55,6 @@ module _ {script : Script} {actor : ℕ} {before after : Station} {clients news 
 
       same : calls_under_way news ≡ calls_under_way clients
       same = attach_calls from (ap held_under idle)
-
-      are : AreCallsOf now (calls_under_way news)
-      are = rw (same, stops.core) (attaching_calls old None (calls_under_way clients) takes.schedule.going.are)
 
   pub attach_cut : (given : Answer) → IsTooMany old given → LeavesGoing actor call before after under (Done given)
       → Comes script actor before after clients news

@@ -73,14 +73,6 @@ module _ {script : Script} {actor : ℕ} {before after : Station} {clients news 
   same : calls_under_way news ≡ calls_under_way clients
   same = attach_calls from (ap held_under idle)
 
-  disk : after.state.disk ≡ before.state.disk
-  disk = search arith
-
-  are : AreCallsOf now (calls_under_way news)
-  are = subst (AreCallsOf now) (sym same)
-      (rw ends.core (attaching_calls ends.answered.core None (calls_under_way clients)
-      (commit_ends_calls takes.is of.0.of ends.answers (calls_under_way clients) takes.schedule.going.are)))
-
   -- ---- the journal with both
 
   module _ {world : World} {past : Past} (within : IsWithin old.pool.out world.setting.failed)
@@ -155,7 +147,7 @@ module _ {script : Script} {actor : ℕ} {before after : Station} {clients news 
         → Runs world script past after.state with_both news
     ends_with with =
         let closed = closes because of.1 ends.given_is in
-        commit_ends after.state takes.was takes.changes runs under (
+        commit_ends takes runs under (
           next,
           stands.groups.begun_is,
           record {
@@ -165,7 +157,7 @@ module _ {script : Script} {actor : ℕ} {before after : Station} {clients news 
             widths = closed.0 begun_is.widths;
           },
         ) (whole_recorded from refl runs (its_group from refl runs) (λ awaits. awaits)) stands.groups.begun_is
-        (only from refl) disk (search (number_is, reflow_is)) (rw same stood) refl idle (λ told. told) closed.1
+        (only from refl) (search arith) (search (number_is, reflow_is)) (rw same stood) refl idle (λ told. told) closed.1
         (rw asked.0 (end_answers given ended)) (end_map world.handed entry given ended) with
 
   -- ---- what it comes to
@@ -179,5 +171,7 @@ module _ {script : Script} {actor : ℕ} {before after : Station} {clients news 
       (search (its_going, arith))))) goes.0.out.still group listed) (search (ends_with, few_out, arith))
       (full_synced script (turns_was takes) (turns_left takes) group entry listed
       (λ full. subst IsAttachEnd full ended))
-      (going_ends takes.was takes.changes takes.schedule.going are (alone from) (cc) idle (only from refl)
+      (going_ends takes.was takes.changes takes.schedule.going (rw (same, ends.core)
+      (attaching_calls ends.answered.core None (calls_under_way clients)
+      (commit_ends_calls takes.is of.0.of ends.answers (calls_under_way clients) takes.schedule.going.are))) (alone from) (cc) idle (only from refl)
       (λ its is_committing. cc)) (its_answered from given leaves (answers_group group takes.schedule.answered))

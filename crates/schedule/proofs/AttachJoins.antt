@@ -22,17 +22,11 @@ module _ {script : Script} {actor : ℕ} {before after : Station} {clients news 
   open before.state use {core as old}
   open after.state use {core as now}
 
-  abbrev width : ℕ
-  width = old.pool.uber.reflow.to
-
   abbrev from : GoesFrom script actor before after clients news call under (work.Attach (Checked ring))
   from = record { takes = takes; does_is = does_is; under_is = under_is; is = is }
 
   of_core : IsAttachRunOf old (Checked ring) × (old.attaching ≡ Some actor)
   of_core = its_attach from
-
-  its_actor : joins.actor ≡ actor
-  its_actor = some_is (sym joins.under_way ∙ of_core.1)
 
   -- The commit of an attach begins.
   pub attach_joins : LeavesGoing actor call before after under (More (work.Attach (Joins join)))
@@ -40,7 +34,7 @@ module _ {script : Script} {actor : ℕ} {before after : Station} {clients news 
   attach_joins further = attach_makes from (Joins join) goes
       (nobody_commits actor takes.schedule.going joins.begins.none) refl refl
       further (search commit_begins_calls) of joins.begins.of (ap (λ (c : Core). c.attaching) joins.begins.rest)
-      (search its_actor)
+      (ap (λ (c : Core). c.committing) joins.begins.rest ∙ sym joins.under_way ∙ of_core.1)
       (λ same client_is world past handed within listed runs.
       let alone = stands_idle runs joins.begins.none in
       let unmade = alone.1 in
@@ -49,7 +43,6 @@ module _ {script : Script} {actor : ℕ} {before after : Station} {clients news 
       (takes.schedule.there actor before.client takes.was))) joins takes.schedule.going.are unmade
       (its_known from runs) in
       let its = begun_now runs.recorded (search) (search arith) (λ id. cc) in
-      commit_begins after.state takes.was takes.changes runs width join.run
+      commit_begins takes runs old.pool.uber.reflow.to join.run
       (unmade.groups.whole (few_out old joins.begins.few)).0 alone.0 refl (cc) joins.disk client_is
-      (made.0, refl, begun_tells its) (λ asked. tt) (λ its_run its_is. rw (← same_attach its_is) made.6)
-      (search same))
+      (made.0, refl, begun_tells its) (λ asked. tt) (λ its_run its_is. rw (← same_attach its_is) made.6) (search same))

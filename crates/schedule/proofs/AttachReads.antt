@@ -1,6 +1,6 @@
 -- What the turns of an attach come to that make no commit, among the other clients' calls: the reads of the new device,
 -- and an attach that ends with them.
-use Rattle.schedule.proofs.Words.{◌≡◌, MakesCommit, ◌≢◌, inl, ℕ, ◌-◌, List, Some, None, refl, sym, ◌∙◌, ap, subst, slice_get, Disk, Lawful, Unchanged, later_refl, Uber, ReadsSlot, RingRead, one_more_read, IsOnInUse, read_touches, unchanged_none, Answer, Entry, Item, Map, PutBytes, map_after_answer, map_of, World, ScriptCall, Script, calls_of, AttachRun, Reads, Checked, Signs, More, Done, AttachGoesOn, FindsFree, HoldsAttach, IsAttachRunOf, IsDeviceRefused, ReadsNext, StopsAttach, WaitsForCommit, attach_commit, IsSyncRefused, Core, CoreState, HasBankOf, IsCore, at_disk, HasTooManyOut, AreCallsOf, Stands, attaching_calls, attaching_stands, look_stands, attaching_commit, rests, since_read, Client, UnderWay, Comes, TakesTurn, IsGroupKind, Past, IsRightNext, AreGoing, Runs, calls_under_way, commit_in, held_under, setting_now, made_by, LeavesGoing, Station, WorkGoesOn, entry_for}
+use Rattle.schedule.proofs.Words.{◌≡◌, call_of_client, MakesCommit, ◌≢◌, inl, ℕ, ◌-◌, List, Some, None, refl, sym, ◌∙◌, ap, subst, slice_get, Disk, Lawful, Unchanged, later_refl, Uber, ReadsSlot, RingRead, one_more_read, IsOnInUse, read_touches, unchanged_none, Answer, Entry, Item, Map, PutBytes, map_after_answer, map_of, World, ScriptCall, Script, calls_of, AttachRun, Reads, Checked, Signs, More, Done, AttachGoesOn, FindsFree, HoldsAttach, IsAttachRunOf, IsDeviceRefused, ReadsNext, StopsAttach, WaitsForCommit, attach_commit, IsSyncRefused, Core, CoreState, HasBankOf, IsCore, at_disk, HasTooManyOut, AreCallsOf, Stands, attaching_calls, attaching_stands, look_stands, attaching_commit, rests, since_read, Client, UnderWay, Comes, TakesTurn, IsGroupKind, Past, IsRightNext, AreGoing, Runs, calls_under_way, commit_in, held_under, setting_now, made_by, LeavesGoing, Station, WorkGoesOn, entry_for}
 use Rattle.core_state.specs.declared.answer.Answer.TheVariants as answer
 use Rattle.schedule.specs.declared.client.Work.TheVariants as work
 use Rattle.schedule.proofs.AttachUses.{refused_plain, sync_plain}
@@ -34,8 +34,7 @@ looked {before = before} after going is lawful unchanged runs = record {
   stands = look_stands before (at_disk before.core after) is refl unchanged lawful runs.stands;
   theirs = runs.theirs;
   each = runs.each;
-  attaches = beside after runs going
-      (read_touches (IsOnInUse before.core.reach before.core.pool.out) unchanged);
+  attaches = beside after runs going (read_touches (IsOnInUse before.core.reach before.core.pool.out) unchanged);
 }
 
 -- One that makes no commit made no group.
@@ -64,8 +63,9 @@ module _ {script : Script} {actor : ℕ} {before after : Station} {clients news 
       → Comes script actor before after clients news
   attach_looks next core unchanged next_early of holds further = comes_further from (work.Attach next)
       (attach_on from goes) further refl
-      (going_goes takes.was takes.changes takes.schedule.going are (same_keeps old core)
-      (work_no_commit under_is no_commit) next next_is refl attaching (record {
+      (going_goes takes.was takes.changes takes.schedule.going (rw (core, same) takes.schedule.going.are)
+      (same_keeps old core)
+      (work_no_commit under_is no_commit) next (ap (λ (c : Client). c.under_way) client_is) refl attaching (record {
         hold = tt;
         call = call;
         there = cc;
@@ -75,7 +75,7 @@ module _ {script : Script} {actor : ℕ} {before after : Station} {clients news 
       }))
       (λ world past handed within listed was.
       let runs = looked after.state.disk takes.schedule.going takes.is takes.still_lawful unchanged was in
-      runs_goes_on after.state takes.was takes.changes runs under
+      runs_goes_on takes runs under
       (λ its its_is. rw (← same_attach its_is) (holds world past runs)) (search still_known)
       (later_refl after.state.disk) (λ groups time row kept. kept) under_is client_is no_commit
       (λ makes. none_there next_early makes) (λ asked asked_is. tt)
@@ -87,17 +87,11 @@ module _ {script : Script} {actor : ℕ} {before after : Station} {clients news 
           ≡ record { begun = before.client.begun; under_way = Some (record { at = under.at; work = work.Attach next }) }
       client_is = cc
 
-      next_is : after.client.under_way ≡ Some (record { at = under.at; work = work.Attach next })
-      next_is = cc
-
       attaching : now.attaching ≡ Some actor
       attaching = ap (λ (c : Core). c.attaching) core ∙ (its_attach from).1
 
       same : calls_under_way news ≡ calls_under_way clients
-      same = attach_calls from (ap held_under next_is)
-
-      are : AreCallsOf now (calls_under_way news)
-      are = rw (core, same) takes.schedule.going.are
+      same = attach_calls from (ap call_of_client client_is)
 
   -- It ends, and no device is attached.
   pub attach_stops : (given : Answer) → FitsNow takes call.kind given → given ≢ answer.Full
@@ -109,13 +103,14 @@ module _ {script : Script} {actor : ℕ} {before after : Station} {clients news 
   attach_stops given fits no_full no_block right stops plain leaves = comes_last from given leaves (attach_on from goes)
       (leaves.0 ∙ plain_listed now before.items under.at entry
       (rw (← ap made_by does_is ∙ made_none run none) at plain)) fits no_full
-      (going_stops takes.was takes.changes takes.schedule.going are (its_attach from).1 (cc) (cc)
+      (going_stops takes.was takes.changes takes.schedule.going (rw (same, stops.core)
+      (attaching_calls old None (calls_under_way clients) takes.schedule.going.are)) (its_attach from).1 (cc) (cc)
       (λ commit of. rw stops.core (attaching_commit old None of))
       (λ many. subst HasTooManyOut (sym stops.core) many) (work_no_commit under_is no_commit) idle)
       (λ world past handed within with was.
       let runs = looked after.state.disk takes.schedule.going takes.is takes.still_lawful stops.unchanged was in
       let map : Map = map_of world.handed world.opening before.items in
-      runs_answer after.state takes.was takes.changes runs runs.commit runs.recorded refl idle refl
+      runs_answer takes runs runs.commit runs.recorded refl idle refl
       (right world past was) fits.of_kind with runs.theirs (work_no_commit under_is no_commit)
       (rw (no_block world.handed map entry)
       (subst (λ (s : CoreState). Stands (setting_now runs) runs.last runs.begun map runs.contents (calls_under_way news)
@@ -131,9 +126,6 @@ module _ {script : Script} {actor : ℕ} {before after : Station} {clients news 
 
       same : calls_under_way news ≡ calls_under_way clients
       same = attach_calls from (ap held_under idle)
-
-      are : AreCallsOf now (calls_under_way news)
-      are = rw (same, stops.core) (attaching_calls old None (calls_under_way clients) takes.schedule.going.are)
 
 -- ---- turn by turn
 
@@ -193,8 +185,7 @@ module _ {script : Script} {actor : ℕ} {before after : Station} {clients news 
       (λ full. subst IsRefusal full refusal) (λ handed map entry. refusal_map handed map entry given refusal)
       (λ world past runs. refusal_right asked refusal
       (device_caused before.state ring after.state given runs.recorded.latest (its_attach (from does_is)).0.behind
-      (ap (λ (u : Uber). u.reflow.to) runs.stands.alike ∙ runs.recorded.item_is.widths.1)
-      (its_known (from does_is)
+      (ap (λ (u : Uber). u.reflow.to) runs.stands.alike ∙ runs.recorded.item_is.widths.1) (its_known (from does_is)
       (looked after.state.disk takes.schedule.going takes.is takes.still_lawful stops.unchanged runs)) refused))
       stops (search refused_plain) leaves
     where

@@ -119,13 +119,13 @@ module _ {script : Script} {actor : ℕ} {before after : Station} {clients news 
       let wider = widens of_world runs next (search arith) (search) in
       let bank = reaching_bank old takes.schedule.bank there in
       let reach = runs.reach + 1 in
-      commit_runs after.state takes.was takes.changes runs reach made
+      commit_runs takes runs reach made
       (recorded_goes (recorded_halves (widened_kept next, refl, wider) (λ awaits. awaits)
       (search (head_is, begun_parity, arith)) Lays made.stage (from_first made.stage)
       (rw known.3 at (its_recorded from refl runs))) goes.0.later
       (λ groups time row. join_joins_since join after.state takes.is attach_of.0.1 takes.schedule.going.are stands known
       made did core bank failed groups time row)) refl client_is (inr (under, under_is, refl))
       (widened_kept next, refl, wider) (λ asked. tt) (λ its its_is. rw (← same_attach its_is) tt)
-      (only_known after.state takes.was takes.changes runs reach (widened_kept next ∷ []) (only from refl) (alone from))
+      (only_known takes runs reach (widened_kept next ∷ []) (only from refl) (alone from))
       (rw same (join_joins_stands join after.state takes.is attach_of.0.1 takes.schedule.going.are stands known made did
       core bank failed)))

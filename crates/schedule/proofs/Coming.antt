@@ -13,31 +13,22 @@ few_or_many out parity = search (cases_lt, arith)
 none_out : (device : ℕ) → has_device 0 device ≡ true → ⊥
 none_out device out = true≢false (sym out ∙ none_in device)
 
--- The devices whose failure has to be borne, where these were out at first, and those later.
-record Bears (out parity later : ℕ) : Type 0 where
-  borne : ℕ
-  few : count_of borne ≤ parity
-  from_start : count_of out ≤ parity → IsWithin out borne
-  stopped : parity < count_of out → IsWithin borne 0
-  within : IsWithin borne later
+-- The devices whose failure has to be borne, where these were out at first and those later: no more than there are
+-- parities, all of them where no more were out, and none where too many were.
+abbrev Bears : ℕ → ℕ → ℕ → Type 0
+Bears out parity later = (borne : ℕ) × (count_of borne ≤ parity) × (count_of out ≤ parity → IsWithin out borne)
+    × (parity < count_of out → IsWithin borne 0) × IsWithin borne later
 
--- They are those that were out, and none where these were too many.
 bears : (out parity later : ℕ) → IsWithin out later → Bears out parity later
 bears out parity later still = ⊎_elim
-    (λ (few : count_of out ≤ parity). record {
-      borne = out;
-      few = few;
-      from_start = λ few device is. is;
-      stopped = λ many. absurd (omega arith);
-      within = still;
-    })
-    (λ (many : parity < count_of out). record {
-      borne = 0;
-      few = search none_listed;
-      from_start = λ few. absurd (omega (arith, few, many));
-      stopped = λ many device is. is;
-      within = λ device is. absurd (none_out device is);
-    }) (few_or_many out parity)
+    (λ (few : count_of out ≤ parity). (out, few, (λ few device is. is), (λ many. absurd (omega arith)), still))
+    (λ (many : parity < count_of out). (
+      0,
+      search none_listed,
+      (λ few. absurd (omega (arith, few, many))),
+      (λ many device is. is),
+      (λ device is. absurd (none_out device is)),
+    )) (few_or_many out parity)
 
 -- A turn of a call that is no attach goes on so,
 pub goes_for : {before after : CoreState} {script : Script} → TurnGoesOn before after → GoesOnFor script before after
@@ -74,13 +65,13 @@ came {before = before} {after} ends on space numbers dropped more items fit runs
   listed = search (grown_has, arith);
   fits = fit;
   dropped = dropped;
-  borne = its.borne;
-  few = its.few;
-  from_start = its.from_start;
-  stopped = its.stopped;
-  within = its.within;
+  borne = its.0;
+  few = its.1;
+  from_start = its.2;
+  stopped = its.3;
+  within = its.4;
   runs = λ world past handed stood within listed.
-      runs world past handed (λ few device out. within device (its.from_start few device out)) listed stood;
+      runs world past handed (λ few device out. within device (its.2 few device out)) listed stood;
   full = λ world past handed stood within listed. full world past handed stood;
   space = space;
   numbers = numbers;
@@ -176,36 +167,23 @@ module _ (script : Script) (start middle now : Turns) (one two : List TurnTaken)
 
   -- the devices that have to be borne in both
   both : (its : Bears start.state.core.pool.out start.state.core.pool.uber.parity now.state.core.pool.out)
-      × IsWithin first.borne its.borne × IsWithin second.borne its.borne
+      × IsWithin first.borne its.0 × IsWithin second.borne its.0
   both = ⊎_elim
       (λ (few : count_of middle.state.core.pool.out ≤ middle.state.core.pool.uber.parity). (
-        record {
-          borne = second.borne;
-          few = search arith;
-          from_start = search arith;
-          stopped = search (count_grows, arith);
-          within = second.within;
-        },
+        (second.borne, search arith, search arith, search (count_grows, arith), second.within),
         (λ device out. second.from_start few device (first.within device out)),
         (λ device out. out),
       ))
       (λ (many : middle.state.core.pool.uber.parity < count_of middle.state.core.pool.out). (
-        record {
-          borne = first.borne;
-          few = first.few;
-          from_start = first.from_start;
-          stopped = first.stopped;
-          within = search arith;
-        },
+        (first.borne, first.few, first.from_start, first.stopped, search arith),
         (λ device out. out),
         (λ device out. absurd (none_out device (second.stopped many device out))),
       )) (few_or_many middle.state.core.pool.out middle.state.core.pool.uber.parity)
 
   -- What stood at the start stands where the first turns led to.
   stands_then : (world : World) (past : Past) → IsWorldOf script world
-      → Runs world script past start.state start.items start.clients → IsWithin both.0.borne world.setting.failed
-      → AreListedWith past.banks start (one ++ two)
-      → Runs world script past middle.state middle.items middle.clients
+      → Runs world script past start.state start.items start.clients → IsWithin both.0.0 world.setting.failed
+      → AreListedWith past.banks start (one ++ two) → Runs world script past middle.state middle.items middle.clients
   stands_then world past handed runs within listed =
       first.runs world past handed runs (λ device out. within device (both.1 device out)) (split past.banks listed).0
 
@@ -226,11 +204,11 @@ module _ (script : Script) (start middle now : Turns) (one two : List TurnTaken)
     listed = λ index item there. second.listed index item (first.listed index item there);
     fits = fits_then;
     dropped = λ cause told. dropped_since cause (second.dropped cause told);
-    borne = both.0.borne;
-    few = both.0.few;
-    from_start = both.0.from_start;
-    stopped = both.0.stopped;
-    within = both.0.within;
+    borne = both.0.0;
+    few = both.0.1;
+    from_start = both.0.2;
+    stopped = both.0.3;
+    within = both.0.4;
     runs = λ world past handed runs within listed.
         second.runs world past handed (stands_then world past handed runs within listed)
         (λ device out. within device (both.2 device out)) (split past.banks listed).1;

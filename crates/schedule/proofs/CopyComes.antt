@@ -44,10 +44,7 @@ module _ {script : Script} {actor : ℕ} {before after : Station} {clients news 
       → Comes script actor before after clients news
   copy_commits run begins leaves =
       commit_comes copy_makes call takes (asked, no_id) (cc) (idle_no_attach idle) disk begins.1 begins.2
-      (search one_less) leaves.0 leaves.1 (cc) (search (slice_get_within, arith))
-    where
-      one_less : before.client.begun + 1 - 1 ≡ before.client.begun
-      one_less = omega arith
+      (search arith) leaves.0 leaves.1 (cc) (search (slice_get_within, arith))
 
   -- A copy waits for another's call.
   pub copy_waits : {by : ℕ} → BeginsRound old now actor (Busy by) → LeavesBegun actor call before after (Busy by)
@@ -63,6 +60,5 @@ module _ {script : Script} {actor : ℕ} {before after : Station} {clients news 
       (λ world past runs. answers.right world before.items runs.item (first_entry call actor before given)
       after.state.disk asked refl runs.recorded.latest (search arith) (search arith) (search (rests, arith)))
     where
-      answers : AnswersCopy old before.state.disk.devices
-          (Dropped takes) given
+      answers : AnswersCopy old before.state.disk.devices (Dropped takes) given
       answers = round_answers old given refused.0

@@ -78,8 +78,7 @@ module _ {script : Script} {actor : ℕ} {before after : Station} {clients news 
     pub rests_commits : (run : CommitRun) → StepsCopy before.state (Rests was made) after.state (More (Commits run))
         → LeavesGoing actor call before after under (More (work.Copy (Commits run))) → ItComes takes
     rests_commits run steps further = commit_comes copy_makes call takes for_call no_call
-        (other_no_attach under_is does_is (λ run same. cc)) steps.1 steps.0.1
-        (rw its_own at steps.0.2) is further.0
+        (other_no_attach under_is does_is (λ run same. cc)) steps.1 steps.0.1 (rw its_own at steps.0.2) is further.0
         (further.1 ∙ ap (λ (at : ℕ). record {
           begun = before.client.begun;
           under_way = Some (record { at = at; work = work.Copy (Commits run) });
@@ -87,8 +86,7 @@ module _ {script : Script} {actor : ℕ} {before after : Station} {clients news 
         (sym (its_number (from does_is))) (takes.schedule.answered.few actor before.client takes.was)
 
     -- It is answered.
-    rest_answers : (given : Answer) → AnswersCopy old before.state.disk.devices
-        (Dropped takes) given
+    rest_answers : (given : Answer) → AnswersCopy old before.state.disk.devices (Dropped takes) given
         → after.state ≡ before.state → LeavesGoing actor call before after under (Done given) → ItComes takes
     rest_answers given answers same ended = comes_finished (from does_is) given ended tt goes (cc)
         (holds_left (ap (λ (s : CoreState). s.core) same)) (cc)

@@ -27,8 +27,7 @@ module _ {script : Script} {actor : ℕ} {before after : Station} {clients news 
       → LeavesBegun actor call before after (More (work.Put run)) → Comes script actor before after clients news
   put_begins run are begins begun =
       let gains = held_gains takes idle change disk next begun refl in
-      comes_begun takes idle change disk next begun refl tt (cc) (asked, cc, cc)
-      (search (put_begins_calls, others))
+      comes_begun takes idle change disk next begun refl tt (cc) (asked, cc, cc) (search (put_begins_calls, others))
       (λ world past runs. (
         content,
         refl,

@@ -108,29 +108,23 @@ module _ {script : Script} {actor : ℕ} {before after : Station} {clients news 
         → Comes script actor before after clients news
     put_stored given_is stores whole = ends_with (cc)
         (ends_rearranges old now filled stores) stores.ends (subst IsPlain (sym given_is) tt)
-        (rw given_is refl) (λ listed told. cc)
-        (λ full. cc) (put_ends_calls stores among.gains among.are)
+        (rw given_is refl) (λ listed told. cc) (λ full. cc) (put_ends_calls stores among.gains among.are)
         (λ world past handed runs stood.
-        rw (map_is world handed.handed (map_of world.handed world.opening before.items)
-        (runs.contents filled.hold.actor) (ap (λ (r : PutRun). runs.contents r.hold.actor) same ∙ content_is runs))
-        (put_ends_stands takes.is stores whole among.gains among.are stood))
+        let map = map_of world.handed world.opening before.items in
+        let content = runs.contents filled.hold.actor in
+        let bytes_are = ap (λ (h : PutBytes). h actor before.client.begun) handed.handed
+        ∙ ap (λ (asked : Option ScriptCall). unwrap_or (option_map (λ asked. fill_bytes asked.fill) asked) []) is
+        ∙ sym (ap (λ (r : PutRun). runs.contents r.hold.actor) same ∙ content_is runs) in
+        let map_is : map_after_answer world.handed map entry given ≡ with_block map (Some filled.range.id) (Some content)
+        = ap (map_after_answer world.handed map entry) given_is
+        ∙ (λ i. with_block map (id_is i) (Some (bytes_are i))) in
+        rw map_is (put_ends_stands takes.is stores whole among.gains among.are stood))
       where
         same : filled ≡ record run { filled = filled.filled }
         same = fills_same call run filled fills
 
         id_is : call.id ≡ Some filled.range.id
         id_is = asked_for.1 ∙ ap (λ (r : PutRun). Some r.range.id) (sym same)
-
-        bytes_are : (world : World) → world.handed ≡ handed_by script
-            → world.handed actor before.client.begun ≡ fill_bytes call.fill
-        bytes_are world handed = ap (λ (h : PutBytes). h actor before.client.begun) handed
-            ∙ ap (λ (asked : Option ScriptCall). unwrap_or (option_map (λ asked. fill_bytes asked.fill) asked) []) is
-
-        map_is : (world : World) → world.handed ≡ handed_by script → (map : Map) (content : List ℕ)
-            → content ≡ fill_bytes call.fill
-            → map_after_answer world.handed map entry given ≡ with_block map (Some filled.range.id) (Some content)
-        map_is world handed map content same = ap (map_after_answer world.handed map entry) given_is
-            ∙ (λ i. with_block map (id_is i) (Some ((bytes_are world handed ∙ sym same) i)))
 
     -- It is given up: too many devices are out, or memory is wanting.
     put_given_up : IsGivenUp old now filled given → Comes script actor before after clients news

@@ -1,5 +1,5 @@
 -- What stood before a turn of one client stands after it, where its call is answered.
-use Rattle.schedule.proofs.Words.{◌≡◌, ◌≢◌, ℕ, List, [], ◌∷◌, ◌++◌, Some, None, sym, subst, length, ◌+◌, ◌-◌, ◌<◌, arith, ◌≤◌, length-append, Option, slice_get, Entry, Item, Group, Map, map_of, map_after_answer, IsAnswerOf, IsAttachOf, Kept, Knows, World, CommitRun, ScriptCall, Script, calls_of, map_grown_call, map_grown_group, AttachRun, CoreState, Stands, shown_of, Client, UnderWay, Work, Changes, Recorded, IsRightNext, IsBegunAt, HasBegun, HasContent, IsGoing, IsTheirs, MakesCommit, Runs, calls_under_way, setting_now, Past, IsListedWith}
+use Rattle.schedule.proofs.Words.{◌≡◌, Station, TakesTurn, ◌≢◌, ℕ, List, [], ◌∷◌, ◌++◌, Some, None, sym, subst, length, ◌+◌, ◌-◌, ◌<◌, arith, ◌≤◌, length-append, Option, slice_get, Entry, Item, Group, Map, map_of, map_after_answer, IsAnswerOf, IsAttachOf, Kept, Knows, World, CommitRun, ScriptCall, Script, calls_of, map_grown_call, map_grown_group, AttachRun, CoreState, Stands, shown_of, Client, UnderWay, Work, Changes, Recorded, IsRightNext, IsBegunAt, HasBegun, HasContent, IsGoing, IsTheirs, MakesCommit, Runs, calls_under_way, setting_now, Past, IsListedWith}
 use Rattle.core_state.specs.declared.item.Group.{Group as GroupItem}
 use Rattle.core_state.specs.declared.item.Item.TheVariants.{Call as CallItem}
 use Rattle.schedule.specs.declared.client.Work.TheVariants as work
@@ -9,10 +9,13 @@ use Rattle.schedule.proofs.Recording.{recorded_answers, recorded_ends, recorded_
 use Rattle.schedule.proofs.Syncs.{stands_know}
 use Rattle.schedule.proofs.RunsGoOn.{IsKnown, early_known, runs_with}
 
-module _ {world : World} {script : Script} {past : Past} {before : CoreState} {items : List Item}
-    {clients news : List Client} {index : ℕ} {old client : Client} (after : CoreState)
-    (was : slice_get clients index ≡ Some old) (changes : Changes clients news index client)
+module _ {world : World} {script : Script} {past : Past} {index : ℕ} {start left : Station} {clients news : List Client}
+    {before : CoreState} {items : List Item} (takes : TakesTurn script index start left clients news)
     (runs : Runs world script past before items clients) where
+  open start use {client as old}
+  open left use {client, state as after}
+  open takes use {was, changes}
+
   abbrev map : Map
   map = map_of world.handed world.opening items
 
@@ -31,11 +34,10 @@ module _ {world : World} {script : Script} {past : Past} {before : CoreState} {i
         runs.contents (calls_under_way news) commit after
 
     answered_with : IsTheirs news commit → StandsNow → Runs world script past after grown news
-    answered_with theirs stands = runs_with after was changes {reach = runs.reach}
+    answered_with theirs stands = runs_with takes runs {reach = runs.reach}
         (subst (Recorded world past grown runs.item runs.last (shown_of runs.begun commit)) (sym disk)
         (recorded_answers so_far runs.reach entry (search (length-append, arith)) (rw disk at (stands_know stands))
-        (search arith) answers))
-        (search map_grown_call) theirs (search no_one)
+        (search arith) answers)) (search map_grown_call) theirs (search no_one)
         (λ other its under apart is. (
           client_grown (CallItem entry ∷ []) (search group_grown)
               (entry_apart items entry other (λ same. apart (cc))) (runs.each other its under is),
@@ -90,14 +92,13 @@ module _ {world : World} {script : Script} {past : Past} {before : CoreState} {i
     -- Its item is listed alone: the call that made it goes on, with this work.
     pub commit_makes : {does : Work} → (attached → ⊥)
         → client ≡ record { begun = old.begun; under_way = Some (record { at = under.at; work = does }) }
-        → old.under_way ≡ Some under → (MakesCommit does → ⊥)
-        → ((run : AttachRun) → does ≡ work.Attach run → ⊥)
+        → old.under_way ≡ Some under → (MakesCommit does → ⊥) → ((run : AttachRun) → does ≡ work.Attach run → ⊥)
         → ((asked : ScriptCall) → slice_get (calls_of script index) (client.begun - 1) ≡ Some asked
         → HasContent world with_one asked under.at (runs.contents index) does)
         → IsListedWith past.banks items with_one after.disk → Runs world script past after with_one news
     commit_makes {does = does} none client_is old_is no_commit no_attach has with =
         let mine = runs.each index old under (record { there = was; under_way = old_is }) in
-        runs_with after was changes {reach = runs.reach} {commit = None}
+        runs_with takes runs {reach = runs.reach} {commit = None}
         (subst (Recorded world past with_one group next []) (sym disk) (recorded_makes (rw begun_is at so_far) is_next
         knows (cc) (cc) (cc) (cc) none (search (length-append, arith))))
         (search map_grown_group) (commit_gone was changes (work_no_commit going no_commit) only)
@@ -122,7 +123,7 @@ module _ {world : World} {script : Script} {past : Past} {before : CoreState} {i
         → map_after_answer world.handed map entry entry.answer ≡ map
         → IsListedWith past.banks items (with_one ++ CallItem entry ∷ []) after.disk
         → Runs world script past after (with_one ++ CallItem entry ∷ []) news
-    commit_ends {entry = entry} caller ended told right answers no_block with = runs_with after was changes
+    commit_ends {entry = entry} caller ended told right answers no_block with = runs_with takes runs
         {reach = runs.reach} {commit = None}
         (subst (Recorded world past (with_one ++ CallItem entry ∷ []) group next []) (sym disk)
         (recorded_ends (rw begun_is at so_far) is_next knows (cc) (cc) (cc) (cc) entry told (search arith) answers
@@ -137,6 +138,5 @@ module _ {world : World} {script : Script} {past : Past} {before : CoreState} {i
         ))
       where
         -- Both were listed with this bank.
-        both_with : {count : ℕ} → length items < count → count ≤ length items + 1 + 1
-            → past.banks count ≡ before.disk
+        both_with : {count : ℕ} → length items < count → count ≤ length items + 1 + 1 → past.banks count ≡ before.disk
         both_with from until = search (length-append, arith)

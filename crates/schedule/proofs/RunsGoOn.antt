@@ -1,5 +1,5 @@
 -- What stood before a turn of one client stands after it, where nothing is listed.
-use Rattle.schedule.proofs.Words.{◌≡◌, inr, Core, ◌≢◌, ℕ, ◌+◌, ◌-◌, List, [], ◌∷◌, length, Some, None, refl, sym, ◌∙◌, ap, subst, arith, slice_get, slice_get_within, Disk, Later, TouchesOnly, Item, Map, map_of, Option, ⊎_elim, ◌⊎◌, inl, Kept, Setting, World, Lays, CommitRun, IsOnInUse, ScriptCall, Script, calls_of, AttachRun, Reads, Checked, Joins, Signs, HoldsAttach, attach_commit, CoreState, Stands, shown_in, shown_of, IsBeforeCommit, attach_beside, Client, UnderWay, Work, Changes, Past, Recorded, AreGoing, HasBegunBy, HasContent, IsClient, IsGoing, MakesCommit, Runs, calls_under_way, commit_in, setting_now, IsTheirs}
+use Rattle.schedule.proofs.Words.{◌≡◌, Station, TakesTurn, inr, Core, ◌≢◌, ℕ, ◌+◌, ◌-◌, List, [], ◌∷◌, length, Some, None, refl, sym, ◌∙◌, ap, subst, arith, slice_get, slice_get_within, Disk, Later, TouchesOnly, Item, Map, map_of, Option, ⊎_elim, ◌⊎◌, inl, Kept, Setting, World, Lays, CommitRun, IsOnInUse, ScriptCall, Script, calls_of, AttachRun, Reads, Checked, Joins, Signs, HoldsAttach, attach_commit, CoreState, Stands, shown_in, shown_of, IsBeforeCommit, attach_beside, Client, UnderWay, Work, Changes, Past, Recorded, AreGoing, HasBegunBy, HasContent, IsClient, IsGoing, MakesCommit, Runs, calls_under_way, commit_in, setting_now, IsTheirs}
 use Rattle.core_state.specs.declared.item.Group.{Group as GroupItem}
 use Rattle.schedule.specs.declared.client.Work.TheVariants as work
 use Rattle.schedule.proofs.Going.{one_commit}
@@ -51,8 +51,7 @@ beside {before = before} after runs going touched other its under run is does = 
 abbrev pub IsKnown : World → Script → List Item → GroupItem → ℕ → Kept → List Kept → Disk → List ℕ → ℕ → Client
     → UnderWay → Type 0
 IsKnown world script items item reach last begun disk bytes index client under =
-    IsClient world script items item begun bytes index client under
-    × ((run : AttachRun) → under.work ≡ work.Attach run
+    IsClient world script items item begun bytes index client under × ((run : AttachRun) → under.work ≡ work.Attach run
     → HoldsAttach (record world.setting { reach = reach }) last begun disk run)
 
 -- No other client attaches.
@@ -60,22 +59,26 @@ abbrev pub IsAlone : List Client → ℕ → Type 0
 IsAlone clients index = (other : ℕ) (its : Client) (under : UnderWay) (run : AttachRun) → other ≢ index
     → IsGoing clients other its under → under.work ≡ work.Attach run → ⊥
 
-module _ {world : World} {script : Script} {past : Past} {clients news : List Client} {index : ℕ} {old client : Client}
-    (after : CoreState) (was : slice_get clients index ≡ Some old) (changes : Changes clients news index client) where
+module _ {world : World} {script : Script} {past : Past} {index : ℕ} {start left : Station} {clients news : List Client}
+    {before : CoreState} {items : List Item} (takes : TakesTurn script index start left clients news)
+    (runs : Runs world script past before items clients) where
+  open start use {client as old}
+  open left use {client, state as after}
+  open takes use {was, changes}
+
   -- What stands after the turn, with what is known of the client's call under way and of the others'.
-  pub runs_with : {items : List Item} {item : GroupItem} {reach : ℕ} {last : Kept} {begun : List Kept}
+  pub runs_with : {listed : List Item} {item : GroupItem} {reach : ℕ} {last : Kept} {begun : List Kept}
       {contents : ℕ → List ℕ} {commit : Option CommitRun}
-      → Recorded world past items item last (shown_of begun commit) after.disk
-      → Stands (record world.setting { reach = reach }) last begun (map_of world.handed world.opening items) contents
-      (calls_under_way news) commit after → IsTheirs news commit
-      → ((under : UnderWay) → client.under_way ≡ Some under
-      → IsKnown world script items item reach last begun after.disk (contents index) index client under)
+      → Recorded world past listed item last (shown_of begun commit) after.disk
+      → Stands (record world.setting { reach = reach }) last begun (map_of world.handed world.opening listed) contents
+      (calls_under_way news) commit after → IsTheirs news commit → ((under : UnderWay) → client.under_way ≡ Some under
+      → IsKnown world script listed item reach last begun after.disk (contents index) index client under)
       → ((other : ℕ) (its : Client) (under : UnderWay) → other ≢ index → IsGoing clients other its under
-      → IsKnown world script items item reach last begun after.disk (contents other) other its under)
-      → Runs world script past after items news
-  runs_with {items} {item} {reach} {last} {begun} {contents} {commit} recorded stands theirs mine others =
+      → IsKnown world script listed item reach last begun after.disk (contents other) other its under)
+      → Runs world script past after listed news
+  runs_with {listed} {item} {reach} {last} {begun} {contents} {commit} recorded stands theirs mine others =
       let each = each_going was changes {T = λ other its under.
-      IsKnown world script items item reach last begun after.disk (contents other) other its under} mine others in
+      IsKnown world script listed item reach last begun after.disk (contents other) other its under} mine others in
       record {
         last = last;
         begun = begun;
@@ -90,20 +93,12 @@ module _ {world : World} {script : Script} {past : Past} {clients news : List Cl
         attaches = λ other its under run is. (each other its under is).1 run;
       }
 
-module _ {world : World} {script : Script} {past : Past} {before : CoreState} {items : List Item}
-    {clients news : List Client} {index : ℕ} {old client : Client} (after : CoreState)
-    (was : slice_get clients index ≡ Some old) (changes : Changes clients news index client)
-    (runs : Runs world script past before items clients) where
   abbrev map : Map
   map = map_of world.handed world.opening items
 
   -- what the journal tells, with this bank
   abbrev IsRecorded : List Kept → Disk → Type 0
   IsRecorded begun now = Recorded world past items runs.item runs.last begun now
-
-  -- what images can show beside the last group
-  abbrev shown : List Kept
-  shown = shown_of runs.begun runs.commit
 
   -- what is known of others' calls, and of this one's attach, where the pool reaches so far and this group is begun
   abbrev OthersKnown : ℕ → List Kept → Type 0
@@ -162,7 +157,7 @@ module _ {world : World} {script : Script} {past : Past} {before : CoreState} {i
       → Stands (record world.setting { reach = reach }) runs.last begun map nows (calls_under_way news) commit after
       → Runs world script past after items news
   has_under {number} {at} {does} {begun} reach nows recorded theirs client_is since group content attached same others
-      stands = runs_with after was changes recorded stands theirs
+      stands = runs_with recorded stands theirs
       (the_one (IsKnown world script items runs.item reach runs.last begun after.disk (nows index) index client)
       (ap (λ (c : Client). c.under_way) client_is) (mine, attached))
       (λ other its under apart is. rw (same other apart) (others other its under apart is))
@@ -185,7 +180,7 @@ module _ {world : World} {script : Script} {past : Past} {before : CoreState} {i
   -- A call goes on that makes no commit.
   pub goes_on : (under : UnderWay) {does : Work} → IsAttached runs.reach runs.begun does
       → OthersKnown runs.reach runs.begun → Later before.disk after.disk
-      → GoesOnSince (setting_now runs) runs.last shown before.disk after.disk → old.under_way ≡ Some under
+      → GoesOnSince (setting_now runs) runs.last (shown_of runs.begun runs.commit) before.disk after.disk → old.under_way ≡ Some under
       → client ≡ record { begun = old.begun; under_way = Some (record { at = under.at; work = does }) }
       → (MakesCommit under.work → ⊥) → (MakesCommit does → ⊥)
       → ((asked : ScriptCall) → slice_get (calls_of script index) (old.begun - 1) ≡ Some asked
@@ -250,6 +245,6 @@ module _ {world : World} {script : Script} {past : Past} {before : CoreState} {i
   pub waits : old.under_way ≡ None → after.disk ≡ before.disk → client.under_way ≡ None
       → Stands (setting_now runs) runs.last runs.begun map runs.contents (calls_under_way news) runs.commit after
       → Runs world script past after items news
-  waits idle disk still stands = runs_with after was changes {reach = runs.reach} (search arith) stands
+  waits idle disk still stands = runs_with {reach = runs.reach} (search arith) stands
       (commit_stays was changes runs.commit (idle_no_commit idle) (idle_no_commit still) runs.theirs) (search no_one)
       (still_known disk)

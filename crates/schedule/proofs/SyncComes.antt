@@ -36,9 +36,7 @@ module _ {script : Script} {actor : ℕ} {before after : Station} {clients news 
   commit_comes {number = number} {run = run} table begins is items client_is number_is low =
       comes_under takes (goes_for (turn_still before.state after.state (ap (λ (c : Core). c.pool.uber) begins.rest)
       (ap (λ (c : Core). c.reach) begins.rest) (ap (λ (c : Core). c.pool.out) begins.rest) disk))
-      items client_is (sym number_is) low
-      (commits_on takes.was takes.changes takes.schedule.going
-      (rw same_calls
+      items client_is (sym number_is) low (commits_on takes.was takes.changes takes.schedule.going (rw same_calls
       (commit_begins_calls core next_core (calls_under_way clients) actor run begins takes.schedule.going.are)) run call
       (keeps_attach (ap (λ (c : Core). c.pool.uber.reflow) begins.rest) (ap (λ (c : Core). c.reach) begins.rest)
       (ap (λ (c : Core). c.attaching) begins.rest)) (nobody_commits actor takes.schedule.going begins.none) no_attach
@@ -53,10 +51,9 @@ module _ {script : Script} {actor : ℕ} {before after : Station} {clients news 
       let rest = rests core takes.is begins.none in
       let begun : next_core.begun ≡ core.begun + 1 = ap (λ (c : Core). c.begun) begins.rest in
       let its = begun_now runs.recorded (let group = made.2 in omega (arith, group, begun, rest, last))
-      (subst (λ (r : Reflow). KeepsOrEnds r made.0.uber.reflow)
-      (ap (λ (u : Uber). u.reflow) runs.stands.alike) made.3)
+      (subst (λ (r : Reflow). KeepsOrEnds r made.0.uber.reflow) (ap (λ (u : Uber). u.reflow) runs.stands.alike) made.3)
       (λ id. ap (λ (m : Map). m id) made.1) in
-      commit_begins after.state takes.was takes.changes runs runs.reach run
+      commit_begins takes runs runs.reach run
       (unmade.groups.whole (few_out core begins.few)).0 alone.0
       (makes.commit run) (ap (λ (r : CommitRun). r.stage) begins.run_is) disk client_is
       (makes.begins world before.items runs.item (made.0 ∷ []) (length before.items) run (made.0, refl, its))
@@ -84,12 +81,9 @@ module _ {script : Script} {actor : ℕ} {before after : Station} {clients news 
       → LeavesBegun actor call before after (More (work.Sync run)) → Comes script actor before after clients news
   sync_begins run table begins leaves =
       commit_comes sync_makes call takes (asked, no_id) (ap held_under idle) (idle_no_attach idle) disk table begins
-      (ap (slice_get (calls_of script actor)) one_less ∙ next) leaves.0 leaves.1
+      (search arith) leaves.0 leaves.1
       (ap (λ (n : ℕ). n + 1) (answered_idle idle))
       (let low = slice_get_within (calls_of script actor) before.client.begun call next in omega (arith, low))
-    where
-      one_less : before.client.begun + 1 - 1 ≡ before.client.begun
-      one_less = omega arith
 
   -- A sync waits for another's.
   pub sync_waits : {by : ℕ} → BeginsCommit old now actor (Busy by) → LeavesBegun actor call before after (Busy by)

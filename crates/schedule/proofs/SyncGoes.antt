@@ -62,15 +62,15 @@ module _ {script : Script} {actor : ℕ} {before after : Station} {clients news 
   commit_goes_further next steps further = comes_further from (does next)
       (goes_for goes) further (makes.made next) (commits_on takes.was takes.changes takes.schedule.going
       (search (same_calls, none, commit_steps_calls)) next call (search (keeps_attach, arith))
-      only_it was_no_attach (makes.no_attach next) next_is (makes.commit next) (makes.its actor next)
+      only_it was_no_attach (makes.no_attach next)
+      (ap (λ (c : Client). c.under_way) client_is) (makes.commit next) (makes.its actor next)
       (cc) (makes.for call next for_call) steps.3 (ap (λ (c : Core). c.committing) steps.2 ∙ of_core.1))
       (λ world past handed within listed runs.
       let stands = its_stands from (makes.commit run) runs in
       let borne = within (few_out old steps.0) in
-      commit_runs after.state takes.was takes.changes runs runs.reach next
+      commit_runs takes runs runs.reach next
       (recorded_goes (halves_recorded from (makes.commit run) runs (its_group runs) (λ attached. absurd attached)
-      next.stage (halves_go steps.1)) goes.later
-      (commit_steps_since takes.is steps borne stands))
+      next.stage (halves_go steps.1)) goes.later (commit_steps_since takes.is steps borne stands))
       (makes.commit next) client_is (inr (under, under_is, refl))
       (makes.begins world before.items runs.item runs.begun under.at next (its_group runs))
       (λ asked. makes.content world before.items asked under.at (runs.contents actor) next)
@@ -85,11 +85,8 @@ module _ {script : Script} {actor : ℕ} {before after : Station} {clients news 
           ≡ record { begun = before.client.begun; under_way = Some (record { at = under.at; work = does next }) }
       client_is = search at_is
 
-      next_is : after.client.under_way ≡ Some (record { at = under.at; work = does next })
-      next_is = ap (λ (c : Client). c.under_way) client_is
-
       none : call_of_client after.client ≡ []
-      none = ap held_under next_is ∙ makes.holds next
+      none = ap call_of_client client_is ∙ makes.holds next
 
   -- Its group is answered: what the core and the journal say of that.
   module _ {number : ℕ} (answers : AnswersGroup before.state run after.state number) where
@@ -152,32 +149,29 @@ module _ {script : Script} {actor : ℕ} {before after : Station} {clients news 
       (goes_for goes) further.0 (fit_group (turns_was takes) (turns_left takes) (group answers) further.0)
       (λ world past handed within listed runs.
       let failed = within (few_out old answers.few) in
-      commit_makes after.state takes.was takes.changes runs under (its_group runs) (whole answers runs failed)
+      commit_makes takes runs under (its_group runs) (whole answers runs failed)
       (stands answers runs failed).groups.begun_is only_it (disk_is answers) (group_is answers runs failed)
       (rw (same_calls none) (stood answers runs failed)) (λ attached. attached) further.1 under_is false≢true
       (λ run same. cc) (λ asked_call asked_is. tt) listed)
       (full_made script (turns_was takes) (turns_left takes) (group answers) further.0)
       (commit_ends takes.was takes.changes takes.schedule.going (ended_are answers none) (keeps answers) only_it
-      was_no_attach (the_one (λ its. IsWorkOf script now actor after.client its.work) rests_now (record {
+      was_no_attach (the_one (λ its. IsWorkOf script now actor after.client its.work)
+      (ap (λ (c : Client). c.under_way) further.1) (record {
         hold = some_is (sym committing ∙ of_core.1);
         call = call;
         there = cc;
         asked = (for_call.0 ∙ copy, for_call.1);
         commit = λ other its. cc;
         attach = λ other its. cc;
-      })) (λ by. none_now answers))
-      (answers_same takes.changes takes.was (search (begun_is, arith))
+      })) (λ by. none_now answers)) (answers_same takes.changes takes.was (search (begun_is, arith))
       (λ its_under its_is. omega (
         arith,
         takes.schedule.answered.some actor before.client under takes.was under_is,
         begun_is,
       )) (answers_group (group answers) takes.schedule.answered) (cc))
     where
-      rests_now : after.client.under_way ≡ Some (record { at = under.at; work = work.Copy (Rests whose (Some number)) })
-      rests_now = ap (λ (c : Client). c.under_way) further.1
-
       none : call_of_client after.client ≡ []
-      none = ap held_under rests_now
+      none = ap call_of_client further.1
 
       begun_is : after.client.begun ≡ before.client.begun
       begun_is = ap (λ (c : Client). c.begun) further.1
@@ -188,12 +182,11 @@ module _ {script : Script} {actor : ℕ} {before after : Station} {clients news 
   synced sync number answers leaves = comes takes (Group (group answers) ∷ CallItem entry ∷ [])
       (append_assoc before.items (Group (group answers) ∷ []) (CallItem entry ∷ [])) (goes_for goes) leaves.0
       (fit_both (turns_was takes) (turns_left takes) entry (fits (for_call.0 ∙ sync) (λ listed told. cc)
-      (λ reached told. cc)
-      (subst IsPlainKind (sym (for_call.0 ∙ sync)) tt)) goes.out.still (group answers) leaves.0)
+      (λ reached told. cc) (subst IsPlainKind (sym (for_call.0 ∙ sync)) tt)) goes.out.still (group answers) leaves.0)
       (λ world past handed within listed runs.
       let failed = within (few_out old answers.few) in
       let mine = runs.each actor before.client under (its_going from) in
-      runs_ends after.state takes.was takes.changes runs under (its_group runs) (whole answers runs failed)
+      runs_ends takes runs under (its_group runs) (whole answers runs failed)
       (stands answers runs failed).groups.begun_is only_it (disk_is answers) (group_is answers runs failed)
       (rw (same_calls none) (stood answers runs failed)) refl (idle_now from (answer.Synced number) leaves)
       (λ attached. absurd attached)
@@ -216,8 +209,7 @@ module _ {script : Script} {actor : ℕ} {before after : Station} {clients news 
       → LeavesGoing actor call before after under (Done (answer.TooManyFailed out)) → ItComes takes
   cut out steps leaves = comes_last from given leaves (goes_for goes) leaves.0
       (group_fits old call.kind given (rw for_call.0 makes.kind) tt (λ listed told. (steps.0, same_out (cc)))
-      (λ reached told. cc) tt) (λ full. cc)
-      (subst (λ (s : CoreState). AreGoing script s.core news) (sym steps.2)
+      (λ reached told. cc) tt) (λ full. cc) (subst (λ (s : CoreState). AreGoing script s.core news) (sym steps.2)
       (commit_ends takes.was takes.changes takes.schedule.going (rw same takes.schedule.going.are)
       (keeps_attach refl refl refl) only_it was_no_attach
       (no_one (λ its. IsWorkOf script old actor after.client its.work) (idle_now from given leaves))
@@ -225,7 +217,7 @@ module _ {script : Script} {actor : ℕ} {before after : Station} {clients news 
       (λ world past handed within listed runs.
       let map : Map = map_of world.handed world.opening before.items in
       let stood = cut_stands steps.0 (its_stands from (makes.commit run) runs) in
-      commit_is_cut after.state takes.was takes.changes runs None
+      commit_is_cut takes runs None
       (whole_recorded from (makes.commit run) runs (its_group runs) (λ attached. absurd attached)) refl
       (idle_now from given leaves) (cc) (search (group_cut_right, last_entry, given, arith)) tt listed
       refl only_it (rw same (subst (Stands (setting_now runs) runs.last runs.begun map runs.contents

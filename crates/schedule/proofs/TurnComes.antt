@@ -66,8 +66,7 @@ module _ {script : Script} {actor : ℕ} {before after : Station} {clients news 
 
   -- what is said of all that may stand before the turn
   abbrev pub OfRuns : ((world : World) (past : Past) → Runs world script past before.state before.items clients
-      → Type 0)
-      → Type 0
+      → Type 0) → Type 0
   OfRuns Holds = (world : World) (past : Past) (runs : Runs world script past before.state before.items clients)
       → Holds world past runs
 
@@ -180,7 +179,7 @@ module _ {script : Script} {actor : ℕ} {before after : Station} {clients news 
         let begun_is = ap (λ (c : Client). c.begun) client_is in
         comes_on still items (cc) (omega arith) (search no_one) (still_going rests are)
         (λ world past handed within listed runs.
-        runs_waits after.state takes.was takes.changes runs idle disk rests (search same_calls))
+        runs_waits takes runs idle disk rests (search same_calls))
 
     module _ {call : ScriptCall} (next : slice_get (calls_of script actor) before.client.begun ≡ Some call) where
       -- A call that is answered in its first turn.
@@ -216,9 +215,6 @@ module _ {script : Script} {actor : ℕ} {before after : Station} {clients news 
       -- A call that holds sectors begins.
       module _ {held : HoldingCall} {does : Work} (begins : LeavesBegun actor call before after (More does))
           (holds : held_by does ≡ held ∷ []) where
-        going_now : after.client.under_way ≡ Some (record { at = length before.items; work = does })
-        going_now = cc
-
         one_less : after.client.begun - 1 ≡ before.client.begun
         one_less = omega (arith, ap (λ (c : Client). c.begun) begins.1)
 
@@ -227,8 +223,7 @@ module _ {script : Script} {actor : ℕ} {before after : Station} {clients news 
         held_gains = call_begins takes.was takes.changes (cc) (cc)
 
         pub comes_begun : IsPlainWork does → IsHoldOf actor does → IsWorkFor call does
-            → AreCallsOf now (calls_under_way news)
-            → OfRuns (λ world past runs. (content : List ℕ)
+            → AreCallsOf now (calls_under_way news) → OfRuns (λ world past runs. (content : List ℕ)
             × HasContent world before.items call (length before.items) content does
             × StandsNow runs (with_content runs.contents actor content)
             (map_of world.handed world.opening before.items) (calls_under_way news)) → ItComes
@@ -238,11 +233,10 @@ module _ {script : Script} {actor : ℕ} {before after : Station} {clients news 
             (search (slice_get_within, arith))
             (going_goes takes.was takes.changes takes.schedule.going are (leaves_commit leaves) (idle_no_commit idle)
             (idle_no_attach idle) (the_one (λ its_under. IsWorkOf script now actor after.client its_under.work)
-            going_now
-            (search (one_less, no_commit, makes_commit, held_no_attach, arith))))
+            (ap (λ (c : Client). c.under_way) begins.1) (search (one_less, no_commit, makes_commit, held_no_attach, arith))))
             (λ world past handed within listed runs.
             let now = stands world past runs in
-            runs_begins after.state takes.was takes.changes runs now.0 does
+            runs_begins takes runs now.0 does
             (λ run is. absurd (subst IsPlainWork is plain)) idle disk begins.1 no_commit
             (search (some_is, arith)) now.2)
 
@@ -286,8 +280,7 @@ module _ {script : Script} {actor : ℕ} {before after : Station} {clients news 
   -- The turn lists nothing, and the call goes on.
   pub comes_further : (next : Work) → GoesOnFor script before.state after.state
       → LeavesGoing actor call before after under (More next) → made_in next ≡ None
-      → AreGoing script after.state.core news → RunsOn script before after clients news before.items
-      → ItComes takes
+      → AreGoing script after.state.core news → RunsOn script before after clients news before.items → ItComes takes
   comes_further next goes further none = comes_under takes goes (cc) further.1 its_number
       (takes.schedule.answered.few actor before.client takes.was)
 
@@ -308,9 +301,6 @@ module _ {script : Script} {actor : ℕ} {before after : Station} {clients news 
         begun = before.client.begun;
         under_way = Some (record { at = at; work = next });
       }) (begun_before next under.work (length before.items) (plain_no_commit next next_plain))
-
-      next_is : after.client.under_way ≡ Some (record { at = under.at; work = next })
-      next_is = ap (λ (c : Client). c.under_way) client_is
 
       pub next_held : call_of_client after.client ≡ held_by next
       next_held = cc
@@ -333,13 +323,12 @@ module _ {script : Script} {actor : ℕ} {before after : Station} {clients news 
           let no_commit = plain_no_commit next next_plain in
           comes_further next (goes_for goes) further none_made
           (going_goes takes.was takes.changes takes.schedule.going are keeps was_none was_no_attach
-          (the_one (λ its_under. IsWorkOf script after.state.core actor after.client its_under.work) next_is
-          (search (makes_commit, no_commit, arith))))
+          (the_one (λ its_under. IsWorkOf script after.state.core actor after.client its_under.work)
+          (ap (λ (c : Client). c.under_way) client_is) (search (makes_commit, no_commit, arith))))
           (λ world past handed within listed runs.
           let now = stands world past runs in
-          runs_goes_on after.state takes.was takes.changes runs under
-          (λ run is. absurd (subst IsPlainWork is next_plain))
-          (search beside_known) goes.later now.0 under_is client_is
+          runs_goes_on takes runs under
+          (λ run is. absurd (subst IsPlainWork is next_plain)) (search beside_known) goes.later now.0 under_is client_is
           (λ makes. plain_no_commit does plain (rw does_is at makes)) no_commit
           (λ other other_is. rw (← some_is (sym is ∙ other_is)) (now.1 (its_content runs))) now.2)
 
@@ -361,8 +350,7 @@ module _ {script : Script} {actor : ℕ} {before after : Station} {clients news 
     -- Its entry alone is listed.
     pub comes_last : GoesOnFor script before.state after.state → after.items ≡ before.items ++ CallItem last_entry ∷ []
         → FitsNow takes call.kind given → given ≢ answer.Full → AreGoing script after.state.core news
-        → RunsOn script before after clients news (before.items ++ CallItem last_entry ∷ [])
-        → ItComes takes
+        → RunsOn script before after clients news (before.items ++ CallItem last_entry ∷ []) → ItComes takes
     comes_last goes listed fit other = comes_answered takes under.at its_number its_place goes listed ended.1 fit
         (λ full. absurd (other full))
 
@@ -374,8 +362,7 @@ module _ {script : Script} {actor : ℕ} {before after : Station} {clients news 
     pub comes_finished : IsPlainWork does → TurnGoesOn before.state after.state
         → after.items ≡ before.items ++ CallItem last_entry ∷ [] → LeavesPool before.state.core after.state.core
         → after.state.disk ≡ before.state.disk → FitsNow takes call.kind given → given ≢ answer.Full
-        → AreCallsOf after.state.core (calls_under_way news)
-        → ((world : World) (past : Past) → IsWorldOf script world
+        → AreCallsOf after.state.core (calls_under_way news) → ((world : World) (past : Past) → IsWorldOf script world
         → (runs : Runs world script past before.state before.items clients)
         → IsListedNow takes (calls_under_way news) last_entry runs) → ItComes takes
     comes_finished plain goes listed leaves disk fit other are stands = comes_last (goes_for goes) listed fit other
@@ -383,7 +370,7 @@ module _ {script : Script} {actor : ℕ} {before after : Station} {clients news 
         (was_no_attach plain) (no_one (λ its. IsWorkOf script after.state.core actor after.client its.work) idle_now))
         (λ world past handed within with runs.
         let now = stands world past handed runs in
-        runs_answer after.state takes.was takes.changes runs runs.commit runs.recorded refl idle_now disk now.0
+        runs_answer takes runs runs.commit runs.recorded refl idle_now disk now.0
         fit.of_kind with runs.theirs (was_none plain) now.1)
 
   -- It makes a commit.
