@@ -1,5 +1,5 @@
 -- What the turns of an attach come to that make its commit, while the group stays as it was begun.
-use Rattle.schedule.proofs.Words.{◌≡◌, call_of_client, ℕ, AreCallsOf, begun_at, length, held_under, inr, ℕ, ◌-◌, List, Option, Some, refl, ◌∙◌, ap, subst, slice_get, IsWithin, Stage, Lays, CommitRun, map_of, AwaitsAttach, World, WhyDropped, JoinRun, ScriptCall, Script, calls_of, AttachRun, Joins, Signs, More, HoldsAttach, IsAttachRunOf, OnlyGoOut, StepsJoin, attach_commit, IsCommitOf, StepsCommit, Core, HasTooManyOut, Stands, shown_in, join_drops_since, join_drops_stands, join_goes_since, join_goes_stands, few_out, commit_steps_since, commit_steps_stands, Client, UnderWay, Comes, TakesTurn, Past, HasBegun, HasBegunIn, Runs, calls_under_way, setting_now, LeavesGoing, Station, WorkGoesOn}
+use Rattle.schedule.proofs.Words.{◌≡◌, call_of_client, ℕ, AreCallsOf, begun_at, length, inr, ℕ, ◌-◌, List, Option, Some, refl, ◌∙◌, ap, subst, slice_get, IsWithin, Stage, Lays, CommitRun, map_of, AwaitsAttach, World, WhyDropped, JoinRun, ScriptCall, Script, calls_of, AttachRun, Joins, Signs, More, HoldsAttach, IsAttachRunOf, OnlyGoOut, StepsJoin, attach_commit, IsCommitOf, StepsCommit, Core, HasTooManyOut, Stands, shown_in, join_drops_since, join_drops_stands, join_goes_since, join_goes_stands, few_out, commit_steps_since, commit_steps_stands, Client, UnderWay, Comes, TakesTurn, Past, HasBegun, HasBegunIn, Runs, calls_under_way, setting_now, LeavesGoing, Station, WorkGoesOn}
 use Rattle.core_commit.specs.declared.commit_run.Stage.TheVariants.{Signs as Signing}
 use Rattle.join_commit.specs.declared.join_run.JoinStep.TheVariants as step
 use Rattle.core_turns.proofs.Frames.{calls_stay as core_calls}

@@ -1,5 +1,5 @@
 -- What a turn of an attach comes to in which its commit is cut short, among the other clients' calls.
-use Rattle.schedule.proofs.Words.{◌≡◌, call_of_client, ap, held_under, ℕ, ◌-◌, List, Some, None, refl, sym, subst, slice_get, CommitRun, Answer, ScriptCall, Script, calls_of, AttachRun, Done, IsTooMany, StopsAttach, attach_commit, at_disk, HasTooManyOut, AreCallsOf, attaching_calls, attaching_stands, look_stands, since_read, Client, UnderWay, Comes, TakesTurn, calls_under_way, setting_now, LeavesGoing, Station, WorkGoesOn}
+use Rattle.schedule.proofs.Words.{◌≡◌, ap, held_under, ℕ, ◌-◌, List, Some, None, refl, sym, subst, slice_get, CommitRun, Answer, ScriptCall, Script, calls_of, AttachRun, Done, IsTooMany, StopsAttach, attach_commit, at_disk, HasTooManyOut, attaching_calls, attaching_stands, look_stands, since_read, Client, UnderWay, Comes, TakesTurn, calls_under_way, setting_now, LeavesGoing, Station, WorkGoesOn}
 use Rattle.core_state.specs.declared.answer.Answer.TheVariants as answer
 use Rattle.core_state.specs.declared.answer.Kind.TheVariants as kind
 use Rattle.core_turns.proofs.CommitStands.{commit_is_cut as cut_stands}

@@ -1,5 +1,5 @@
 -- What the last turn of an attach comes to that answers its group, among the other clients' calls.
-use Rattle.schedule.proofs.Words.{◌≡◌, held_under, inl, inr, ℕ, ◌+◌, ◌-◌, List, [], ◌∷◌, ◌++◌, length, Option, Some, None, refl, sym, ◌∙◌, ap, subst, arith, append_assoc, slice_get, IsWithin, Uber, CommitRun, Answer, Entry, Item, Group, IsAttachOf, IsWidthStep, Kept, Map, map_of, AwaitsAttach, item_of, World, last_there, width_step_where, WhyDropped, ScriptCall, Script, calls_of, Signs, Done, EndsAttach, IsAttachRunOf, IsMadeAt, attach_answer, IsCore, AreCallsOf, Stands, attach_ends_stands, attaching_calls, commit_ends_calls, few_out, Client, UnderWay, Comes, TakesTurn, IsDeviceCause, Past, IsBegunAt, IsRightNext, Runs, calls_under_way, setting_now, LeavesGoing, Station, WorkGoesOn, group_for, IsListedWith}
+use Rattle.schedule.proofs.Words.{◌≡◌, held_under, inl, inr, ℕ, ◌+◌, ◌-◌, List, [], ◌∷◌, ◌++◌, length, Option, Some, None, refl, sym, ◌∙◌, ap, subst, arith, append_assoc, slice_get, IsWithin, Uber, CommitRun, Answer, Entry, Item, Group, IsAttachOf, IsWidthStep, Kept, Map, map_of, AwaitsAttach, item_of, World, last_there, width_step_where, WhyDropped, ScriptCall, Script, calls_of, Signs, Done, EndsAttach, IsAttachRunOf, IsMadeAt, attach_answer, IsCore, Stands, attach_ends_stands, attaching_calls, commit_ends_calls, few_out, Client, UnderWay, Comes, TakesTurn, IsDeviceCause, Past, IsBegunAt, IsRightNext, Runs, calls_under_way, setting_now, LeavesGoing, Station, WorkGoesOn, group_for, IsListedWith}
 use Rattle.core_state.specs.declared.answer.Answer.TheVariants as answer
 use Rattle.core_state.specs.declared.answer.Kind.TheVariants as kind
 use Rattle.core_state.specs.declared.item.Group.{Group as GroupItem}

@@ -5,7 +5,7 @@ use Rattle.schedule.specs.declared.client.Work.TheVariants as work
 use Rattle.schedule.proofs.AttachCommits.{attach_makes}
 use Rattle.schedule.proofs.Begun.{begun_now}
 use Rattle.schedule.proofs.RunsGoOn.{commit_begins, nobody_commits, stands_idle}
-use Rattle.schedule.proofs.Theirs.{same_attach, some_is}
+use Rattle.schedule.proofs.Theirs.{same_attach}
 use Rattle.schedule.proofs.TurnComes.{GoesFrom, its_attach, its_known}
 
 -- A group that was begun when no attach was known to be due may be an attach's.

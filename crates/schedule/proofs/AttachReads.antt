@@ -1,6 +1,6 @@
 -- What the turns of an attach come to that make no commit, among the other clients' calls: the reads of the new device,
 -- and an attach that ends with them.
-use Rattle.schedule.proofs.Words.{◌≡◌, call_of_client, MakesCommit, ◌≢◌, inl, ℕ, ◌-◌, List, Some, None, refl, sym, ◌∙◌, ap, subst, slice_get, Disk, Lawful, Unchanged, later_refl, Uber, ReadsSlot, RingRead, one_more_read, IsOnInUse, read_touches, unchanged_none, Answer, Entry, Item, Map, PutBytes, map_after_answer, map_of, World, ScriptCall, Script, calls_of, AttachRun, Reads, Checked, Signs, More, Done, AttachGoesOn, FindsFree, HoldsAttach, IsAttachRunOf, IsDeviceRefused, ReadsNext, StopsAttach, WaitsForCommit, attach_commit, IsSyncRefused, Core, CoreState, HasBankOf, IsCore, at_disk, HasTooManyOut, AreCallsOf, Stands, attaching_calls, attaching_stands, look_stands, attaching_commit, rests, since_read, Client, UnderWay, Comes, TakesTurn, IsGroupKind, Past, IsRightNext, AreGoing, Runs, calls_under_way, commit_in, held_under, setting_now, made_by, LeavesGoing, Station, WorkGoesOn, entry_for}
+use Rattle.schedule.proofs.Words.{◌≡◌, arith, call_of_client, MakesCommit, ◌≢◌, inl, ℕ, ◌-◌, List, Some, None, refl, sym, ◌∙◌, ap, subst, slice_get, Disk, Lawful, Unchanged, later_refl, Uber, ReadsSlot, RingRead, one_more_read, IsOnInUse, read_touches, unchanged_none, Answer, Entry, Item, Map, PutBytes, map_after_answer, map_of, World, ScriptCall, Script, calls_of, AttachRun, Reads, Checked, Signs, More, Done, AttachGoesOn, FindsFree, HoldsAttach, IsAttachRunOf, IsDeviceRefused, ReadsNext, StopsAttach, WaitsForCommit, attach_commit, IsSyncRefused, Core, CoreState, HasBankOf, IsCore, at_disk, HasTooManyOut, Stands, attaching_calls, attaching_stands, look_stands, attaching_commit, rests, since_read, Client, UnderWay, Comes, TakesTurn, IsGroupKind, Past, IsRightNext, AreGoing, Runs, calls_under_way, commit_in, held_under, setting_now, made_by, LeavesGoing, Station, WorkGoesOn, entry_for}
 use Rattle.core_state.specs.declared.answer.Answer.TheVariants as answer
 use Rattle.schedule.specs.declared.client.Work.TheVariants as work
 use Rattle.schedule.proofs.AttachUses.{refused_plain, sync_plain}
@@ -132,12 +132,7 @@ module _ {script : Script} {actor : ℕ} {before after : Station} {clients news 
 -- A slot was read of what the device shows still.
 reads_still : {before after : Disk} (ring : RingRead) {next : RingRead} → Unchanged before after
     → ReadsSlot before ring next → ReadsSlot after ring next
-reads_still ring unchanged reads = record {
-  bytes = reads.bytes;
-  told = λ known is. reads.told known (sym (unchanged.reads ring.device ring.slots) ∙ is);
-  taken = reads.taken;
-  rest = reads.rest;
-}
+reads_still ring unchanged reads = grind arith
 
 module _ {script : Script} {actor : ℕ} {before after : Station} {clients news : List Client} {call : ScriptCall}
     (takes : TakesTurn script actor before after clients news) {under : UnderWay} (ring : RingRead)

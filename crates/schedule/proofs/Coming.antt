@@ -3,7 +3,6 @@ use Rattle.schedule.proofs.Words.{◌≡◌, Later, ◌⊎◌, inl, inr, ⊎_eli
 use Rattle.std.proofs.Common.{true}
 use Rattle.core_state.specs.declared.answer.Kind.TheVariants as kind
 use Rattle.core_open.proofs.Written.{none_listed}
-use Rattle.join_commit.specs.declared.join_run.WhyDropped.TheVariants as why
 use Rattle.schedule.proofs.Fitting.{FitSince, device_cause_on, fit_same}
 use Rattle.schedule.proofs.Fulls.{FullStays, full_same}
 
@@ -32,14 +31,14 @@ bears out parity later still = ⊎_elim
 
 -- A turn of a call that is no attach goes on so,
 pub goes_for : {before after : CoreState} {script : Script} → TurnGoesOn before after → GoesOnFor script before after
-goes_for {before} {after} goes = search (as_attach, turn_bank)
+goes_for goes = search (as_attach, turn_bank)
 
 -- and one of an attach as attaches do.
 pub goes_for_attach : {before after : CoreState} {script : Script} (actor number : ℕ) {call : ScriptCall}
     → slice_get (calls_of script actor) number ≡ Some call → call.kind ≡ kind.Attach
     → AttachGoesOn before after × (HasBankOf before.core before.disk → HasBankOf after.core after.disk)
     → GoesOnFor script before after
-goes_for_attach actor number {call = call} is asked goes = search arith
+goes_for_attach actor number is asked goes = search arith
 
 -- Turns in which these items were listed, and which did what one turn may do, or nothing.
 pub came : {script : Script} {before after : Turns} {passed : List TurnTaken} → last_left before passed ≡ after
@@ -107,8 +106,7 @@ listed_split banks start (turn ∷ one) two listed =
 -- A cause that came between two moments came between an earlier one and a later one.
 cause_beside : (early : Disk) {old new : Disk} (late : Disk) (out now : ℕ) (cause : WhyDropped) → Later early old
     → Later new late → IsWithin out now → IsDropCause old new out cause → IsDropCause early late now cause
-cause_beside early late out now (why.NewDeviceFailed device) before after still rose = search arith
-cause_beside early late out now (why.DeviceOut device) before after still is = still device is
+cause_beside early late out now cause before after still is = grind arith
 
 -- Turns after turns.
 module _ (script : Script) (start middle now : Turns) (one two : List TurnTaken)
@@ -137,14 +135,10 @@ module _ (script : Script) (start middle now : Turns) (one two : List TurnTaken)
 
   -- Why no device was attached that was known so far, or came to be known,
   dropped_before : (cause : WhyDropped) → HasDropCause start middle cause → HasDropCause start now cause
-  dropped_before cause (inl came) = inl (cause_beside start.state.disk now.state.disk middle.state.core.pool.out
-      now.state.core.pool.out cause (later_refl start.state.disk) second.later second.out.still came)
-  dropped_before cause (inr told) = inr told
+  dropped_before cause told = grind (arith, cause_beside, later_refl)
 
   dropped_since : (cause : WhyDropped) → HasDropCause middle now cause → HasDropCause start now cause
-  dropped_since cause (inl came) = inl (cause_beside start.state.disk now.state.disk now.state.core.pool.out
-      now.state.core.pool.out cause first.later (later_refl now.state.disk) (λ device out. out) came)
-  dropped_since cause (inr told) = dropped_before cause (first.dropped cause told)
+  dropped_since cause told = grind (arith, cause_beside, later_refl, dropped_before)
 
   fits_then : FitSince start now
   fits_then index entry there = ⊎_elim

@@ -1,5 +1,5 @@
 -- What the first turn of a copy comes to, among the other clients' calls.
-use Rattle.schedule.proofs.Words.{◌≡◌, ℕ, ◌+◌, ◌-◌, List, refl, sym, subst, arith, Some, None, slice_get, slice_get_within, Disk, Answer, map_of, CommitRun, ScriptCall, Script, calls_of, CopyRun, Copies, Commits, More, Busy, Done, at_disk, BeginsJobSo, BeginsRound, Stands, rests, job_begins_calls, job_begins_stands, Comes, TakesTurn, calls_under_way, setting_now, LeavesBegun, Station, Client}
+use Rattle.schedule.proofs.Words.{◌≡◌, ℕ, List, refl, sym, subst, arith, Some, None, slice_get, slice_get_within, Disk, Answer, map_of, CommitRun, ScriptCall, Script, calls_of, CopyRun, Copies, Commits, More, Busy, Done, at_disk, BeginsJobSo, BeginsRound, Stands, rests, job_begins_calls, job_begins_stands, Comes, TakesTurn, calls_under_way, setting_now, LeavesBegun, Station, Client}
 use Rattle.core_state.specs.declared.answer.Kind.TheVariants as kind
 use Rattle.schedule.specs.declared.client.Work.TheVariants as work
 use Rattle.schedule.proofs.CommitWorks.{copy_makes}

@@ -1,5 +1,5 @@
 -- What a free comes to.
-use Rattle.schedule.proofs.Words.{◌≡◌, inr, ℕ, List, Option, Some, None, refl, sym, ◌∙◌, ap, slice_get, option_and_then, Disk, Answer, Entry, Map, PutBytes, map_of, map_after_answer, IsAnswerOf, IsRightFree, found_id, found_listed, map_after_free, HoldsMap, ScriptCall, Script, calls_of, Core, at_disk, pool_at, FreesBlock, Done, frees_calls, frees_stands, Client, Station, Frees, LeavesBegun, TakesTurn, Comes, calls_under_way}
+use Rattle.schedule.proofs.Words.{◌≡◌, inr, ℕ, List, Some, None, refl, ap, slice_get, option_and_then, Disk, Answer, Entry, Map, PutBytes, map_of, map_after_answer, IsAnswerOf, IsRightFree, found_id, found_listed, map_after_free, HoldsMap, ScriptCall, Script, calls_of, Core, at_disk, pool_at, FreesBlock, Done, frees_calls, frees_stands, Client, Station, Frees, LeavesBegun, TakesTurn, Comes, calls_under_way, arith}
 use Rattle.core_state.specs.declared.answer.Answer.TheVariants as answer
 use Rattle.core_state.specs.declared.answer.Kind.TheVariants as kind
 use Rattle.schedule.proofs.Fitting.{no_device_cause, plain_no_limit}
@@ -33,17 +33,7 @@ frees_so old new id other frees = absurd frees
 -- The answer is right of the map that the pool held.
 frees_right : (old new : Core) {disk : Disk} (map : Map) (id : ℕ) (given : Answer)
     → HoldsMap map (pool_at (at_disk old disk)) → FreesBlock old new id given → IsRightFree (map id) given
-frees_right old new map id answer.Freed holds frees = λ none.
-    let entries = old.pool.blocks.table.entries in
-    let told = holds.table.listed frees.1 (found_listed entries id frees.1 frees.2.was) in
-    none_some (sym none ∙ ap map (sym (found_id entries id frees.1 frees.2.was)) ∙ told.1)
-frees_right old new map id answer.Absent holds frees = by (map id) refl
-  where
-    by : (held : Option (List ℕ)) → map id ≡ held → map id ≡ None
-    by None is = is
-    by (Some content) is = absurd (none_some (sym frees.1.none ∙ (holds.table.every id content is).1))
-frees_right old new map id (answer.TooManyFailed out) holds frees = tt
-frees_right old new map id other holds frees = cc
+frees_right old new map id given holds frees = grind (arith, found_listed, none_some, found_id)
 
 module _ {script : Script} {actor : ℕ} {before after : Station} {clients news : List Client}
     (takes : TakesTurn script actor before after clients news) {call : ScriptCall} (id : ℕ) {given : Answer}

@@ -1,5 +1,5 @@
 -- A put is filled in, and how it ends.
-use Rattle.schedule.proofs.Words.{◌≡◌, ◌≢◌, ◌⊎◌, inl, inr, ⊎_elim, ℕ, List, ◌∷◌, length, Option, Some, refl, sym, subst, Gains, Answer, Map, Kept, Setting, CommitRun, ScriptCall, fill_bytes, Filled, PutRun, Done, Core, CoreState, EndsPut, GivesUp, GivesUpTurn, IsStoppedPut, StoresBlock, HoldingCall, Putting, AreCallsOf, Stands, put_fills_calls, put_fills_stands, EndsPutting, IsFilledIn}
+use Rattle.schedule.proofs.Words.{◌≡◌, ◌≢◌, ◌⊎◌, inl, inr, ℕ, List, ◌∷◌, length, Option, Some, refl, sym, subst, Gains, Answer, Map, Kept, Setting, CommitRun, ScriptCall, fill_bytes, Filled, PutRun, Done, Core, CoreState, EndsPut, GivesUp, GivesUpTurn, IsStoppedPut, StoresBlock, HoldingCall, Putting, AreCallsOf, Stands, put_fills_calls, put_fills_stands, EndsPutting, IsFilledIn, arith}
 use Rattle.core_state.specs.declared.answer.Answer.TheVariants as answer
 use Rattle.schedule.proofs.Fitting.{TellsOut}
 use Rattle.schedule.proofs.Puts.{IsUnstored, tells_out}
@@ -10,8 +10,7 @@ use Rattle.schedule.proofs.Lists.{gains_first}
 -- It is the same put but for what is filled in,
 pub fills_same : (call : ScriptCall) (run filled : PutRun) → IsFilledIn call run filled
     → filled ≡ record run { filled = filled.filled }
-fills_same call run filled (inl same) = rw same refl
-fills_same call run filled (inr (none, fills)) = cc
+fills_same call run filled fills = grind arith
 
 -- and stands among the calls in its place, with its bytes.
 pub record FilledAmong (state : CoreState) (content : List ℕ) (left calls : List HoldingCall)
@@ -28,13 +27,13 @@ pub record FilledAmong (state : CoreState) (content : List ℕ) (left calls : Li
 pub fills_among : {state : CoreState} {left calls : List HoldingCall} {run filled : PutRun} (call : ScriptCall)
     → IsFilledIn call run filled → length (fill_bytes call.fill) ≡ run.len → Gains left calls (Putting run)
     → AreCallsOf state.core calls → FilledAmong state (fill_bytes call.fill) left calls run filled
-fills_among {left = left} {calls} call (inl same) len_is gains are = record {
+fills_among {calls} call (inl same) len_is gains are = record {
   nexts = calls;
   gains = rw same gains;
   are = are;
   stands = λ setting last begun map contents commit is stands. stands;
 }
-fills_among {left = left} {run = run} {filled} call (inr (none, fills)) len_is gains are =
+fills_among {left = left} {filled} call (inr (none, fills)) len_is gains are =
     let first = gains_first (Putting filled) left in
     record {
       nexts = Putting filled ∷ left;
@@ -74,9 +73,7 @@ given_up_turn other is = absurd is
 -- Once all is written, its block is stored or the put is given up.
 stored_or_given_up : {old new : Core} {run : PutRun} (given : Answer) → EndsPut old run new (Done given)
     → ((given ≡ answer.Stored) × StoresBlock old new run) ⊎ IsGivenUp old new run given
-stored_or_given_up answer.Stored is = inl (refl, is)
-stored_or_given_up (answer.TooManyFailed out) is = inr (given_up_stopped is)
-stored_or_given_up other is = absurd is
+stored_or_given_up given is = grind (arith, given_up_stopped)
 
 -- All of it was written.
 abbrev pub IsWhole : PutRun → Type 0
@@ -87,10 +84,4 @@ pub put_ended : (before after : CoreState) (call : ScriptCall) (run : PutRun) (g
     → (ends : EndsPutting before after call run given)
     → ((given ≡ answer.Stored) × StoresBlock before.core after.core ends.filled × IsWhole ends.filled)
     ⊎ IsGivenUp before.core after.core ends.filled given
-put_ended before after call run given ends = elim ends.ends [
-  | inl writes ↦ inr (given_up_stopped writes.0)
-  | inr (inl last) ↦ ⊎_elim
-      (λ stored. inl (stored.0, stored.1, (last.0, last.1, last.2)))
-      (λ given_up. inr given_up) (stored_or_given_up given last.3)
-  | inr (inr given_up) ↦ inr (rw given_up.1 (given_up_turn given given_up.2))
-]
+put_ended before after call run given ends = grind (arith, given_up_stopped, stored_or_given_up, given_up_turn)

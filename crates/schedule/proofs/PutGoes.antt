@@ -1,5 +1,5 @@
 -- What each later turn of a client's put comes to.
-use Rattle.schedule.proofs.Words.{◌≡◌, ◌≢◌, ⊎_elim, ℕ, ◌-◌, List, [], ◌∷◌, ◌++◌, Option, Some, refl, sym, ◌∙◌, ap, subst, option_map, slice_get, unwrap_or, EndsHold, Gains, gains_item, Answer, Entry, Map, PutBytes, map_of, map_after_answer, with_block, IsAnswerOf, World, ScriptCall, fill_bytes, Script, calls_of, handed_by, PutRun, More, Done, at_disk, IsPutOf, StoresBlock, WritesOne, HoldingCall, Putting, AreCallsOf, Stands, TurnGoesOn, keeps_ended, Rearranges, ends_rearranges, gives_up_rearranges, put_ends_calls, put_gives_up_calls, put_writes_calls, put_ends_stands, put_gives_up_stands, put_shared, put_writes_stands, put_writes_since, Client, UnderWay, IsWorkFor, Runs, calls_under_way, setting_now, Station, EndsPutting, GoesOnPutting, IsFilledIn, LeavesGoing, entry_for, made_by, IsWorldOf, TakesTurn, Comes, Past}
+use Rattle.schedule.proofs.Words.{◌≡◌, ◌≢◌, ⊎_elim, ℕ, ◌-◌, List, [], ◌∷◌, ◌++◌, Option, Some, refl, sym, ◌∙◌, ap, subst, option_map, slice_get, unwrap_or, EndsHold, Gains, gains_item, Answer, Entry, PutBytes, map_of, map_after_answer, with_block, IsAnswerOf, World, ScriptCall, fill_bytes, Script, calls_of, PutRun, More, Done, at_disk, IsPutOf, StoresBlock, WritesOne, HoldingCall, Putting, AreCallsOf, Stands, TurnGoesOn, keeps_ended, Rearranges, ends_rearranges, gives_up_rearranges, put_ends_calls, put_gives_up_calls, put_writes_calls, put_ends_stands, put_gives_up_stands, put_shared, put_writes_stands, put_writes_since, Client, UnderWay, IsWorkFor, Runs, calls_under_way, setting_now, Station, EndsPutting, GoesOnPutting, IsFilledIn, LeavesGoing, entry_for, made_by, IsWorldOf, TakesTurn, Comes, Past}
 use Rattle.core_state.specs.declared.answer.Answer.TheVariants as answer
 use Rattle.core_state.specs.declared.answer.Kind.TheVariants as kind
 use Rattle.core_state.specs.declared.item.Item.TheVariants.{Call as CallItem}

@@ -1,7 +1,6 @@
 -- What reads are answered, and what their end leaves.
-use Rattle.schedule.proofs.Words.{◌≡◌, inl, inr, ⊎_elim, ℕ, ◌≤◌, List, [], ◌∷◌, ◌++◌, length, Option, Some, None, refl, subst, arith, option_and_then, cases_lt, Disk, EndsHold, rows_of, Gains, count_of, Answer, Kind, Entry, Item, Map, PutBytes, map_after, map_after_answer, IsAnswerOf, Kept, Setting, World, CommitRun, IsReadRight, ScriptCall, point_after, read_point, GetRun, Solved, NotYet, Bytes, Damaged, Done, Core, CoreState, IsCore, IsReadKind, HasTooManyOut, IsGetRefused, ReadsTurn, SolvesGet, AnswersSolved, EndsGet, answer_of, HoldingCall, Reading, AreCallsOf, Stands, gains_item, get_tells, get_ends_stands, get_solves_stands, get_ends_calls, get_solves_calls, get_shared, keeps_ended, IsRightNext, AllBelow, EndsReading, entry_for, listed_for}
+use Rattle.schedule.proofs.Words.{◌≡◌, inl, inr, ⊎_elim, ℕ, ◌≤◌, List, [], ◌∷◌, ◌++◌, length, Option, Some, None, arith, option_and_then, cases_lt, Disk, EndsHold, rows_of, Gains, count_of, Answer, Kind, Entry, Item, Map, PutBytes, map_after, map_after_answer, IsAnswerOf, Kept, Setting, World, CommitRun, IsReadRight, ScriptCall, point_after, read_point, GetRun, Solved, Done, Core, CoreState, IsCore, IsReadKind, HasTooManyOut, IsGetRefused, ReadsTurn, SolvesGet, AnswersSolved, EndsGet, HoldingCall, Reading, AreCallsOf, Stands, gains_item, get_tells, get_ends_stands, get_solves_stands, get_ends_calls, get_solves_calls, get_shared, keeps_ended, IsRightNext, AllBelow, EndsReading, entry_for, listed_for}
 use Rattle.core_state.specs.declared.answer.Answer.TheVariants as answer
-use Rattle.core_state.specs.declared.answer.Kind.TheVariants as kind
 use Rattle.core_state.specs.declared.item.Item.TheVariants.{Call as CallItem}
 use Rattle.schedule.proofs.Fitting.{NoLimit, TellsOut}
 use Rattle.schedule.proofs.RightNext.{read_right, read_cut_right, same_out}
@@ -12,33 +11,23 @@ use Rattle.schedule.proofs.Lists.{gains_first}
 
 -- A read may be told that its block is absent, or damaged.
 lacks_of : (asked : Kind) → IsReadKind asked → IsAnswerOf asked answer.Absent × IsAnswerOf asked answer.Damaged
-lacks_of kind.Get is = (inl refl, inl refl)
-lacks_of kind.Sum is = (inr (inl refl), inr refl)
-lacks_of other is = absurd is
+lacks_of asked is = grind arith
 
 -- the point that a read's answer speaks of
 point_read : (asked : Kind) (at : ℕ) (given : Answer) → IsReadKind asked
     → point_after asked at given ≡ read_point at given
-point_read kind.Get at given is = refl
-point_read kind.Sum at given is = refl
-point_read other at given is = absurd is
+point_read asked at given is = grind arith
 
 -- An answer to a read makes no group,
 pub listed_read : (core : Core) (items : List Item) (at : ℕ) (entry : Entry) (made : Option ℕ) (asked : Kind)
     (given : Answer) → IsReadKind asked → IsAnswerOf asked given
     → listed_for core items at entry made given ≡ items ++ CallItem entry ∷ []
-listed_read core items at entry made asked (answer.Synced group) is of = absurd (subst IsReadKind of is)
-listed_read core items at entry made asked (answer.Attached width group) is of = absurd (subst IsReadKind of is)
-listed_read core items at entry made asked (answer.NewDeviceFailed device) is of = absurd (subst IsReadKind of is)
-listed_read core items at entry made asked (answer.DeviceOut device) is of = absurd (subst IsReadKind of is)
-listed_read core items at entry made asked other is of = refl
+listed_read core items at entry made asked given is of = grind arith
 
 -- and leaves the map.
 pub map_read : (handed : PutBytes) {map : Map} (entry : Entry) (asked : Kind) (given : Answer) → IsReadKind asked
     → IsAnswerOf asked given → map_after_answer handed map entry given ≡ map
-map_read handed entry asked answer.Stored is of = absurd (subst IsReadKind of is)
-map_read handed entry asked answer.Freed is of = absurd (subst IsReadKind of is)
-map_read handed entry asked other is of = refl
+map_read handed entry asked given is of = grind arith
 
 -- An answer to a read that began after some of the items, all of its caller's among them, is right where it tells of
 -- the map of that time, or was cut short.
@@ -47,7 +36,7 @@ pub right_read : (world : World) {items : List Item} {disk : Disk} (call : Scrip
     → IsReadRight (option_and_then (map_after world.handed world.opening items at) call.id) call.kind given
     → IsRightNext world items (entry_for call actor number at given) disk
 right_read world call actor (answer.TooManyFailed out) is some within below right = search (read_cut_right, point_read)
-right_read world {items = items} {disk = disk} call actor {number = number} {at = at} answer.NoMemory is some within
+right_read world call actor answer.NoMemory is some within
     below right = search (read_cut_right, point_read)
 right_read world call actor answer.Damaged is some within below right = absurd right
 right_read world {items = items} {disk = disk} call actor {number = number} {at = at} other is some within below right =
@@ -56,36 +45,17 @@ right_read world {items = items} {disk = disk} call actor {number = number} {at 
 -- Why a read was refused is an answer to it,
 pub refused_of : (core : Core) (id : ℕ) (asked : Kind) (given : Answer) → IsReadKind asked → IsGetRefused core id given
     → IsAnswerOf asked given
-refused_of core id asked (answer.TooManyFailed out) is refused = tt
-refused_of core id asked answer.Absent is refused = (lacks_of asked is).0
-refused_of core id asked answer.NoMemory is refused = tt
-refused_of core id asked other is refused = absurd refused
+refused_of core id asked given is refused = grind (arith, lacks_of)
 
 -- and right, whatever the map has, where that has nothing at the id if it says so.
 pub refused_right : (core : Core) (id : ℕ) {held : Option (List ℕ)} (asked : Kind) (given : Answer)
     → (given ≡ answer.Absent → held ≡ None) → IsGetRefused core id given → IsReadRight held asked given
-refused_right core id asked (answer.TooManyFailed out) none refused = tt
-refused_right core id asked answer.Absent none refused = search arith
-refused_right core id asked answer.NoMemory none refused = tt
-refused_right core id asked other none refused = absurd refused
+refused_right core id asked given none refused = grind arith
 
 -- What was solved is answered so, and never that too many devices are out or of a limit.
 solved_of : (run : GetRun) (solved : Solved) {given : Answer} → IsReadKind run.kind → AnswersSolved run solved given
     → IsAnswerOf run.kind given × ((out : ℕ) → given ≡ answer.TooManyFailed out → ⊥) × NoLimit given
-solved_of run solved {given = given} is answers = by solved answers
-  where
-    Tells : Kind → Answer → Type 0
-    Tells asked told = IsAnswerOf asked told × ((out : ℕ) → told ≡ answer.TooManyFailed out → ⊥) × NoLimit told
-
-    block : (asked : Kind) (bytes : List ℕ) → IsReadKind asked → Tells asked (answer_of asked run.entry bytes)
-    block kind.Get bytes asked = (refl, λ out same. cc, λ reached same. cc)
-    block kind.Sum bytes asked = (refl, λ out same. cc, λ reached same. cc)
-    block other bytes asked = absurd asked
-
-    by : (solved : Solved) → AnswersSolved run solved given → Tells run.kind given
-    by NotYet told = search arith
-    by (Bytes bytes) told = search (block, arith)
-    by Damaged told = search (lacks_of, arith)
+solved_of run solved is answers = grind (arith, lacks_of)
 
 -- ---- the end of a read
 
@@ -113,7 +83,7 @@ read_leaves {old} {new} {run} {left} {calls} rest ends gains are = leaves_pool o
 stopped_ends : {before after : CoreState} {run : GetRun} {given : Answer} {left calls : List HoldingCall}
     → IsCore before.core → ReadsTurn before run after (Done given) → Gains left calls (Reading run)
     → AreCallsOf before.core calls → EndsRead before after run given left calls
-stopped_ends {before} {after} {run} {given} {left} {calls} core stops gains are = record {
+stopped_ends core stops gains are = record {
   leaves = search read_leaves;
   answer_is = search arith;
   too_many = search (same_out, arith);

@@ -1,5 +1,5 @@
 -- What stood before a turn of one client stands after it, where its call is answered.
-use Rattle.schedule.proofs.Words.{◌≡◌, Station, TakesTurn, ◌≢◌, ℕ, List, [], ◌∷◌, ◌++◌, Some, None, sym, subst, length, ◌+◌, ◌-◌, ◌<◌, arith, ◌≤◌, length-append, Option, slice_get, Entry, Item, Group, Map, map_of, map_after_answer, IsAnswerOf, IsAttachOf, Kept, Knows, World, CommitRun, ScriptCall, Script, calls_of, map_grown_call, map_grown_group, AttachRun, CoreState, Stands, shown_of, Client, UnderWay, Work, Changes, Recorded, IsRightNext, IsBegunAt, HasBegun, HasContent, IsGoing, IsTheirs, MakesCommit, Runs, calls_under_way, setting_now, Past, IsListedWith}
+use Rattle.schedule.proofs.Words.{◌≡◌, Station, TakesTurn, ◌≢◌, ℕ, List, [], ◌∷◌, ◌++◌, Some, None, sym, subst, length, ◌+◌, ◌-◌, ◌<◌, arith, ◌≤◌, length-append, Option, slice_get, Entry, Item, Group, Map, map_of, map_after_answer, IsAnswerOf, IsAttachOf, Kept, Knows, World, CommitRun, ScriptCall, Script, calls_of, map_grown_call, map_grown_group, AttachRun, CoreState, Stands, shown_of, Client, UnderWay, Work, Recorded, IsRightNext, IsBegunAt, HasBegun, HasContent, IsGoing, IsTheirs, MakesCommit, Runs, calls_under_way, setting_now, Past, IsListedWith}
 use Rattle.core_state.specs.declared.item.Group.{Group as GroupItem}
 use Rattle.core_state.specs.declared.item.Item.TheVariants.{Call as CallItem}
 use Rattle.schedule.specs.declared.client.Work.TheVariants as work

@@ -1,5 +1,5 @@
 -- What stood before a turn of one client stands after it, where nothing is listed.
-use Rattle.schedule.proofs.Words.{◌≡◌, Station, TakesTurn, inr, Core, ◌≢◌, ℕ, ◌+◌, ◌-◌, List, [], ◌∷◌, length, Some, None, refl, sym, ◌∙◌, ap, subst, arith, slice_get, slice_get_within, Disk, Later, TouchesOnly, Item, Map, map_of, Option, ⊎_elim, ◌⊎◌, inl, Kept, Setting, World, Lays, CommitRun, IsOnInUse, ScriptCall, Script, calls_of, AttachRun, Reads, Checked, Joins, Signs, HoldsAttach, attach_commit, CoreState, Stands, shown_in, shown_of, IsBeforeCommit, attach_beside, Client, UnderWay, Work, Changes, Past, Recorded, AreGoing, HasBegunBy, HasContent, IsClient, IsGoing, MakesCommit, Runs, calls_under_way, commit_in, setting_now, IsTheirs}
+use Rattle.schedule.proofs.Words.{◌≡◌, Station, TakesTurn, inr, Core, ◌≢◌, ℕ, ◌+◌, ◌-◌, List, [], ◌∷◌, length, Some, None, refl, sym, ◌∙◌, ap, subst, arith, slice_get, slice_get_within, Disk, Later, TouchesOnly, Item, Map, map_of, Option, ⊎_elim, ◌⊎◌, inl, Kept, Setting, World, Lays, CommitRun, IsOnInUse, ScriptCall, Script, calls_of, AttachRun, Reads, Checked, Joins, Signs, HoldsAttach, attach_commit, CoreState, Stands, shown_in, shown_of, IsBeforeCommit, attach_beside, Client, UnderWay, Work, Past, Recorded, AreGoing, HasBegunBy, HasContent, IsClient, IsGoing, MakesCommit, Runs, calls_under_way, commit_in, setting_now, IsTheirs}
 use Rattle.core_state.specs.declared.item.Group.{Group as GroupItem}
 use Rattle.schedule.specs.declared.client.Work.TheVariants as work
 use Rattle.schedule.proofs.Going.{one_commit}
