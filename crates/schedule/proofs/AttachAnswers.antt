@@ -14,16 +14,13 @@ IsAttachEnd other = ⊥
 pub attach_ended : (because : Option WhyDropped) (width group : ℕ) → IsAttachEnd (attach_answer because width group)
 attach_ended because width group = grind arith
 
--- Where it was not, that is told.
-pub end_refusal : (because : WhyDropped) (width group : ℕ) → IsRefusal (attach_answer (Some because) width group)
-end_refusal because width group = grind arith
+-- Where it was not, that is told, and the journal has no more to say of why;
+pub end_told : (items : List Item) (index : ℕ) (disk : Disk) (because : WhyDropped) (width group : ℕ)
+    → IsRefusal (attach_answer (Some because) width group)
+    × IsAnswerCause items index disk (attach_answer (Some because) width group)
+end_told items index disk because width group = grind arith
 
--- The journal has no more to say of why,
-pub end_caused : (items : List Item) (index : ℕ) (disk : Disk) (because : WhyDropped) (width group : ℕ)
-    → IsAnswerCause items index disk (attach_answer (Some because) width group)
-end_caused items index disk because width group = grind arith
-
--- and its cause is the one that was known when the commit was made.
+-- its cause is the one that was known when the commit was made.
 pub end_cause : (devices : ℕ) (dropped : WhyDropped → Type 0) (because : Option WhyDropped) (width group : ℕ)
     → ((cause : WhyDropped) → because ≡ Some cause → dropped cause)
     → IsDeviceCause devices dropped (attach_answer because width group)

@@ -1,5 +1,5 @@
 -- What the first turn of an attach comes to, among the other clients' calls.
-use Rattle.schedule.proofs.Words.{◌≡◌, ℕ, ◌+◌, ◌-◌, List, length, Some, None, refl, sym, ap, subst, arith, slice_get, slice_get_within, none_read, Answer, map_of, ScriptCall, Script, calls_of, AttachRun, More, Busy, Done, BeginsAttach, BeginsAttachSo, attach_commit, at_disk, Stands, attaching_calls, attaching_stands, turn_still, Client, UnderWay, calls_under_way, setting_now, Station, LeavesBegun, TakesTurn, Comes}
+use Rattle.schedule.proofs.Words.{◌≡◌, ℕ, ◌+◌, ◌-◌, List, length, Some, None, refl, sym, ap, subst, arith, slice_get, slice_get_within, none_read, Answer, map_of, ScriptCall, Script, calls_of, AttachRun, More, Busy, Done, BeginsAttach, BeginsAttachSo, attach_commit, at_disk, Stands, attaching_calls, attaching_stands, turn_still, Client, UnderWay, calls_under_way, setting_now, Station, LeavesBegun, TakesTurn}
 use Rattle.core_state.specs.declared.answer.Kind.TheVariants as kind
 use Rattle.schedule.specs.declared.client.Work.TheVariants as work
 use Rattle.schedule.proofs.Answered.{answered_idle}
@@ -11,7 +11,7 @@ use Rattle.schedule.proofs.Refusals.{IsRefusal, refusal_answers, refusal_map, re
 use Rattle.schedule.proofs.RunsGoOn.{begins as runs_begins}
 use Rattle.schedule.proofs.Theirs.{none_there, calls_stay, none_some, same_attach}
 use Rattle.schedule.proofs.Running.{with_same}
-use Rattle.schedule.proofs.TurnComes.{comes_nowhere, comes_refused, comes_under}
+use Rattle.schedule.proofs.TurnComes.{ItComes, comes_nowhere, comes_refused, comes_under}
 
 module _ {script : Script} {actor : ℕ} {before after : Station} {clients news : List Client} {call : ScriptCall}
     (takes : TakesTurn script actor before after clients news) (asked : call.kind ≡ kind.Attach)
@@ -23,7 +23,7 @@ module _ {script : Script} {actor : ℕ} {before after : Station} {clients news 
 
   -- An attach begins: nothing of the new device's ring is read yet.
   pub attach_begins : (run : AttachRun) → BeginsAttachSo old now before.state.disk.devices actor run
-      → LeavesBegun actor call before after (More (work.Attach run)) → Comes script actor before after clients news
+      → LeavesBegun actor call before after (More (work.Attach run)) → ItComes takes
   attach_begins run begins leaves = comes_under takes
       (goes_for (turn_still before.state after.state (cc) (cc) (cc) disk)) leaves.0 leaves.1
       (ap (λ (n : ℕ). n + 1) (sym (answered_idle idle))) (search (slice_get_within, arith))
@@ -54,12 +54,12 @@ module _ {script : Script} {actor : ℕ} {before after : Station} {clients news 
 
   -- An attach waits for another, or for a commit.
   pub attach_waits : {by : ℕ} → BeginsAttach old now before.state.disk.devices actor (Busy by)
-      → LeavesBegun actor call before after (Busy by) → Comes script actor before after clients news
+      → LeavesBegun actor call before after (Busy by) → ItComes takes
   attach_waits waits leaves = comes_nowhere takes (search arith)
 
   -- An attach is refused at once.
   pub attach_at_once : (given : Answer) → BeginsAttach old now before.state.disk.devices actor (Done given)
-      → LeavesBegun actor call before after (Done given) → Comes script actor before after clients news
+      → LeavesBegun actor call before after (Done given) → ItComes takes
   attach_at_once given refused leaves =
       comes_refused takes idle (holds_left refused.1) disk next refused.1 leaves
       (search (attach_fits, refusal_answers, refusal, refused_tells, refused_cause, arith)) (search (refusal, arith))

@@ -1,5 +1,5 @@
 -- What the turns of an attach come to that make its commit, while the group stays as it was begun.
-use Rattle.schedule.proofs.Words.{◌≡◌, call_of_client, ℕ, AreCallsOf, begun_at, length, inr, ℕ, ◌-◌, List, Option, Some, refl, ◌∙◌, ap, subst, slice_get, IsWithin, Stage, Lays, CommitRun, map_of, AwaitsAttach, World, WhyDropped, JoinRun, ScriptCall, Script, calls_of, AttachRun, Joins, Signs, More, HoldsAttach, IsAttachRunOf, OnlyGoOut, StepsJoin, attach_commit, IsCommitOf, StepsCommit, Core, HasTooManyOut, Stands, shown_in, join_drops_since, join_drops_stands, join_goes_since, join_goes_stands, few_out, commit_steps_since, commit_steps_stands, Client, UnderWay, Comes, TakesTurn, Past, HasBegun, HasBegunIn, Runs, calls_under_way, setting_now, LeavesGoing, Station, WorkGoesOn}
+use Rattle.schedule.proofs.Words.{◌≡◌, call_of_client, ℕ, AreCallsOf, begun_at, length, inr, ℕ, ◌-◌, List, Option, Some, refl, ◌∙◌, ap, subst, slice_get, IsWithin, Stage, Lays, CommitRun, map_of, AwaitsAttach, World, WhyDropped, JoinRun, ScriptCall, Script, calls_of, AttachRun, Joins, Signs, More, HoldsAttach, IsAttachRunOf, OnlyGoOut, StepsJoin, attach_commit, IsCommitOf, StepsCommit, Core, HasTooManyOut, Stands, shown_in, join_drops_since, join_drops_stands, join_goes_since, join_goes_stands, few_out, commit_steps_since, commit_steps_stands, Client, UnderWay, TakesTurn, Past, HasBegun, HasBegunIn, Runs, calls_under_way, setting_now, LeavesGoing, Station, WorkGoesOn}
 use Rattle.core_commit.specs.declared.commit_run.Stage.TheVariants.{Signs as Signing}
 use Rattle.join_commit.specs.declared.join_run.JoinStep.TheVariants as step
 use Rattle.core_turns.proofs.Frames.{calls_stay as core_calls}
@@ -9,7 +9,7 @@ use Rattle.schedule.proofs.Recording.{GoesOnSince, HalvesGoOn, recorded_goes}
 use Rattle.schedule.proofs.RunsGoOn.{commit_runs, only_known}
 use Rattle.schedule.proofs.Syncs.{halves_go}
 use Rattle.schedule.proofs.Theirs.{OnlyIt, same_attach}
-use Rattle.schedule.proofs.TurnComes.{GoesFrom, RunsOn, alone, attach_calls, attach_on, comes_further, halves_recorded, its_asked, its_attach, its_commit, its_going, its_known, its_stands, only}
+use Rattle.schedule.proofs.TurnComes.{GoesFrom, ItComes, RunsOn, alone, attach_calls, attach_on, comes_further, halves_recorded, its_asked, its_attach, its_commit, its_going, its_known, its_stands, only}
 
 -- The first half may go on, or the second one begin.
 pub from_first : (to : Stage) → HalvesGoOn Lays to
@@ -32,7 +32,7 @@ module _ {script : Script} {actor : ℕ} {before after : Station} {clients news 
       → (calls_under_way news ≡ calls_under_way clients → after.client ≡ record {
         begun = before.client.begun;
         under_way = Some (record { at = at; work = work.Attach next });
-      } → RunsOn script before after clients news before.items) → Comes script actor before after clients news
+      } → RunsOn script before after clients news before.items) → ItComes takes
   attach_makes {at} next goes only_it makes at_is further are of of_commit attaching committing runs =
       comes_further from (work.Attach next) (attach_on from goes) further refl
       (attach_commits takes.was takes.changes takes.schedule.going (rw same are) (alone from) only_it refl of
@@ -65,8 +65,7 @@ module _ {script : Script} {actor : ℕ} {before after : Station} {clients news 
         × HoldsAttach (setting_now runs) runs.last runs.begun after.state.disk next
         × Stands (setting_now runs) runs.last runs.begun (map_of world.handed world.opening before.items) runs.contents
         (calls_under_way clients) (Some made) after.state)
-        → LeavesGoing actor call before after under (More (work.Attach next))
-        → Comes script actor before after clients news
+        → LeavesGoing actor call before after under (More (work.Attach next)) → ItComes takes
     attach_steps goes next made next_makes few core of of_commit stands further = attach_makes next goes
         (only from makes) next_makes (cc) further (search core_calls) of of_commit (ap (λ (c : Core). c.attaching) core)
         (ap (λ (c : Core). c.committing) core ∙ (its_commit from makes).1)
@@ -76,8 +75,7 @@ module _ {script : Script} {actor : ℕ} {before after : Station} {clients news 
         (recorded_goes (halves_recorded from makes runs (its_group runs) (λ awaits. awaits) made.stage stood.0)
         goes.0.later stood.1) next_makes client_is (inr (under, under_is, refl)) (rw next_makes (its_group runs))
         (λ asked. tt) (λ its its_is. rw (← same_attach its_is) stood.2)
-        (only_known takes runs runs.reach runs.begun (only from makes) (alone from))
-        (rw same stood.3))
+        (only_known takes runs runs.reach runs.begun (only from makes) (alone from)) (rw same stood.3))
 
 -- ---- turn by turn
 
@@ -94,8 +92,7 @@ module _ {script : Script} {actor : ℕ} {before after : Station} {clients news 
       → WorkGoesOn (work.Attach (Joins join)) before.state after.state
       → StepsJoin before.state join after.state (step.GoesOn next) → OnlyGoOut before.state after.state
       → IsAttachRunOf after.state.core (Joins next)
-      → LeavesGoing actor call before after under (More (work.Attach (Joins next)))
-      → Comes script actor before after clients news
+      → LeavesGoing actor call before after under (More (work.Attach (Joins next))) → ItComes takes
   join_goes join next does_is goes did core of = let from = begins_from does_is in
       attach_steps from refl goes (Joins next) next.run refl did.few core of of.0.of
       (λ world past runs within.
@@ -115,8 +112,7 @@ module _ {script : Script} {actor : ℕ} {before after : Station} {clients news 
       → WorkGoesOn (work.Attach (Joins join)) before.state after.state
       → StepsJoin before.state join after.state (step.Dropped made because) → OnlyGoOut before.state after.state
       → IsAttachRunOf after.state.core (Signs made (Some because))
-      → LeavesGoing actor call before after under (More (work.Attach (Signs made (Some because))))
-      → Comes script actor before after clients news
+      → LeavesGoing actor call before after under (More (work.Attach (Signs made (Some because)))) → ItComes takes
   join_drops join made because does_is goes did core of = let from = begins_from does_is in
       attach_steps from refl goes (Signs made (Some because)) made refl did.few core of of.0.of
       (λ world past runs within.
@@ -134,8 +130,7 @@ module _ {script : Script} {actor : ℕ} {before after : Station} {clients news 
       → under.work ≡ work.Attach (Signs commit because)
       → WorkGoesOn (work.Attach (Signs commit because)) before.state after.state
       → StepsCommit before.state commit after.state (More next) → IsAttachRunOf after.state.core (Signs next same)
-      → LeavesGoing actor call before after under (More (work.Attach (Signs next same)))
-      → Comes script actor before after clients news
+      → LeavesGoing actor call before after under (More (work.Attach (Signs next same))) → ItComes takes
   signs_on commit next because same does_is goes steps of = let from = begins_from does_is in
       attach_steps from refl goes (Signs next same) next refl steps.0 steps.2 of of.0.of
       (λ world past runs within.

@@ -1,5 +1,5 @@
 -- What a turn of an attach comes to in which its commit is cut short, among the other clients' calls.
-use Rattle.schedule.proofs.Words.{◌≡◌, ap, held_under, ℕ, ◌-◌, List, Some, None, refl, sym, subst, slice_get, CommitRun, Answer, ScriptCall, Script, calls_of, AttachRun, Done, IsTooMany, StopsAttach, attach_commit, at_disk, HasTooManyOut, attaching_calls, attaching_stands, look_stands, since_read, Client, UnderWay, Comes, TakesTurn, calls_under_way, setting_now, LeavesGoing, Station, WorkGoesOn}
+use Rattle.schedule.proofs.Words.{◌≡◌, ap, held_under, ℕ, ◌-◌, List, Some, None, refl, sym, subst, slice_get, CommitRun, Answer, ScriptCall, Script, calls_of, AttachRun, Done, IsTooMany, StopsAttach, attach_commit, at_disk, HasTooManyOut, attaching_calls, attaching_stands, look_stands, since_read, Client, UnderWay, TakesTurn, calls_under_way, setting_now, LeavesGoing, Station, WorkGoesOn}
 use Rattle.core_state.specs.declared.answer.Answer.TheVariants as answer
 use Rattle.core_state.specs.declared.answer.Kind.TheVariants as kind
 use Rattle.core_turns.proofs.CommitStands.{commit_is_cut as cut_stands}
@@ -11,7 +11,7 @@ use Rattle.schedule.proofs.Going.{attach_ends as going_ends}
 use Rattle.schedule.proofs.Recording.{recorded_goes}
 use Rattle.schedule.proofs.Refusals.{refusal_right}
 use Rattle.schedule.proofs.RunsEnd.{commit_is_cut}
-use Rattle.schedule.proofs.TurnComes.{GoesFrom, alone, attach_calls, attach_on, comes_last, idle_now, its_asked, its_stands, only, whole_recorded}
+use Rattle.schedule.proofs.TurnComes.{GoesFrom, ItComes, alone, attach_calls, attach_on, comes_last, idle_now, its_asked, its_stands, only, whole_recorded}
 
 module _ {script : Script} {actor : ℕ} {before after : Station} {clients news : List Client} {call : ScriptCall}
     (takes : TakesTurn script actor before after clients news) {under : UnderWay} {run : AttachRun} {commit : CommitRun}
@@ -28,8 +28,7 @@ module _ {script : Script} {actor : ℕ} {before after : Station} {clients news 
 
   -- Too many devices are out.
   cut : (out : ℕ) → HasTooManyOut old → out ≡ old.pool.out
-      → LeavesGoing actor call before after under (Done (answer.TooManyFailed out))
-      → Comes script actor before after clients news
+      → LeavesGoing actor call before after under (Done (answer.TooManyFailed out)) → ItComes takes
   cut out many out_is leaves = comes_last from (answer.TooManyFailed out) leaves (attach_on from goes) leaves.0
       (attach_fits asked.0 tt (λ listed told. (many, cc)) (λ reached told. cc) tt)
       (λ full. cc) (going_ends takes.was takes.changes takes.schedule.going (rw (same, stops.core)
@@ -43,8 +42,7 @@ module _ {script : Script} {actor : ℕ} {before after : Station} {clients news 
       stops.unchanged.goes_on.later
       (λ groups time row. since_read (setting_now was) groups time before.state.disk after.state.disk stops.unchanged)
       in
-      commit_is_cut takes runs None whole refl idle refl
-      (refusal_right asked.0 tt tt) tt listed refl (only from makes)
+      commit_is_cut takes runs None whole refl idle refl (refusal_right asked.0 tt tt) tt listed refl (only from makes)
       (rw same (rw stops.core (attaching_stands old None after.state.disk takes.is stood))))
     where
       asked : (call.kind ≡ kind.Attach) × (call.id ≡ None)
@@ -57,6 +55,6 @@ module _ {script : Script} {actor : ℕ} {before after : Station} {clients news 
       same = attach_calls from (ap held_under idle)
 
   pub attach_cut : (given : Answer) → IsTooMany old given → LeavesGoing actor call before after under (Done given)
-      → Comes script actor before after clients news
+      → ItComes takes
   attach_cut (answer.TooManyFailed out) many leaves = cut out many.0 many.1 leaves
   attach_cut other many leaves = absurd many

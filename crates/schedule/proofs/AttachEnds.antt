@@ -1,12 +1,12 @@
 -- What the last turn of an attach comes to that answers its group, among the other clients' calls.
-use Rattle.schedule.proofs.Words.{◌≡◌, held_under, inl, inr, ℕ, ◌+◌, ◌-◌, List, [], ◌∷◌, ◌++◌, length, Option, Some, None, refl, sym, ◌∙◌, ap, subst, arith, append_assoc, slice_get, IsWithin, Uber, CommitRun, Answer, Entry, Item, Group, IsAttachOf, IsWidthStep, Kept, Map, map_of, AwaitsAttach, item_of, World, last_there, width_step_where, WhyDropped, ScriptCall, Script, calls_of, Signs, Done, EndsAttach, IsAttachRunOf, IsMadeAt, attach_answer, IsCore, Stands, attach_ends_stands, attaching_calls, commit_ends_calls, few_out, Client, UnderWay, Comes, TakesTurn, IsDeviceCause, Past, IsBegunAt, IsRightNext, Runs, calls_under_way, setting_now, LeavesGoing, Station, WorkGoesOn, group_for, IsListedWith}
+use Rattle.schedule.proofs.Words.{◌≡◌, held_under, inl, inr, ℕ, ◌+◌, ◌-◌, List, [], ◌∷◌, ◌++◌, length, Option, Some, None, refl, sym, ◌∙◌, ap, subst, arith, append_assoc, slice_get, IsWithin, Uber, CommitRun, Answer, Entry, Item, Group, IsAttachOf, IsWidthStep, Kept, Map, map_of, AwaitsAttach, item_of, World, last_there, width_step_where, WhyDropped, ScriptCall, Script, calls_of, Signs, Done, EndsAttach, IsAttachRunOf, IsMadeAt, attach_answer, IsCore, Stands, attach_ends_stands, attaching_calls, commit_ends_calls, few_out, Client, UnderWay, TakesTurn, Past, IsBegunAt, IsRightNext, Runs, calls_under_way, setting_now, LeavesGoing, Station, WorkGoesOn, group_for, IsListedWith}
 use Rattle.core_state.specs.declared.answer.Answer.TheVariants as answer
 use Rattle.core_state.specs.declared.answer.Kind.TheVariants as kind
 use Rattle.core_state.specs.declared.item.Group.{Group as GroupItem}
 use Rattle.core_state.specs.declared.item.Item.TheVariants.{Call as CallItem}
 use Rattle.schedule.specs.declared.client.Work.TheVariants as work
 use Rattle.schedule.proofs.Answered.{answers_group}
-use Rattle.schedule.proofs.AttachAnswers.{IsAttachEnd, attach_ended, end_answers, end_cause, end_caused, end_map, end_refusal}
+use Rattle.schedule.proofs.AttachAnswers.{IsAttachEnd, attach_ended, end_answers, end_cause, end_map, end_told}
 use Rattle.schedule.proofs.AttachCommits.{its_group}
 use Rattle.schedule.proofs.AttachUses.{answered_by}
 use Rattle.schedule.proofs.Fitting.{attach_fits, fit_both}
@@ -16,7 +16,7 @@ use Rattle.schedule.proofs.Refusals.{refusal_right}
 use Rattle.schedule.proofs.RightNext.{attached_right}
 use Rattle.schedule.proofs.Running.{head_is}
 use Rattle.schedule.proofs.RunsEnd.{commit_ends}
-use Rattle.schedule.proofs.TurnComes.{Dropped, GoesFrom, alone, attach_calls, attach_on, comes, idle_now, its_answered, its_asked, its_attach, its_going, its_stands, last_entry, only, turns_left, turns_was, whole_recorded}
+use Rattle.schedule.proofs.TurnComes.{Dropped, GoesFrom, ItComes, alone, attach_calls, attach_on, comes, idle_now, its_answered, its_asked, its_attach, its_going, its_stands, last_entry, only, turns_left, turns_was, whole_recorded}
 use Rattle.schedule.proofs.UsingWorks.{group_listed}
 
 -- A group of the width before it has its widths, or ends an expansion, and needs no attach for that.
@@ -138,10 +138,11 @@ module _ {script : Script} {actor : ℕ} {before after : Station} {clients news 
       where
         wider : (now.pool.uber.reflow.from ≡ old.pool.uber.reflow.from) × (now.pool.uber.reflow.to ≡ runs.item.from + 1)
         wider = search (made_is, last_from)
-    closes (Some cause) made given_is = (
-      search (same_widths, reflow_is, made_is, last_to, arith),
-      refusal_right asked.0 (search (end_refusal, arith)) (search (end_caused, arith)),
-    )
+    closes (Some cause) made given_is =
+        let told = end_told with_group (length with_group) after.state.disk cause now.pool.uber.reflow.to old.begun in (
+          search (same_widths, reflow_is, made_is, last_to, arith),
+          refusal_right asked.0 (rw given_is told.0) (rw given_is told.1),
+        )
 
     ends_with : IsListedWith past.banks before.items with_both after.state.disk
         → Runs world script past after.state with_both news
@@ -162,12 +163,11 @@ module _ {script : Script} {actor : ℕ} {before after : Station} {clients news 
 
   -- ---- what it comes to
 
-  pub attach_ends : Comes script actor before after clients news
+  pub attach_ends : ItComes takes
   attach_ends = comes takes (Group group ∷ CallItem entry ∷ []) (search append_assoc) (attach_on from goes) listed
       (fit_both (turns_was takes) (turns_left takes) entry
       (attach_fits asked.0 (end_answers given ended) (search (ended, arith)) (search (ended, arith))
-      (subst (IsDeviceCause before.state.disk.devices (Dropped takes)) (sym ends.given_is)
-      (end_cause before.state.disk.devices (Dropped takes) because now.pool.uber.reflow.to old.begun
+      (rw ends.given_is (end_cause before.state.disk.devices (Dropped takes) because now.pool.uber.reflow.to old.begun
       (search (its_going, arith))))) goes.0.out.still group listed) (search (ends_with, few_out, arith))
       (full_synced script (turns_was takes) (turns_left takes) group entry listed
       (λ full. subst IsAttachEnd full ended))

@@ -1,12 +1,12 @@
 -- What the turn of an attach comes to in which its commit begins, among the other clients' calls.
-use Rattle.schedule.proofs.Words.{◌≡◌, ℕ, ◌-◌, List, Some, refl, sym, ◌∙◌, ap, subst, arith, slice_get, RingRead, JoinRun, Item, Kept, World, ScriptCall, Script, calls_of, width_step_where, Checked, Joins, More, BeginsJoining, IsAttachRunOf, Core, attach_joins_stands, commit_begins_calls, few_out, Client, UnderWay, Comes, TakesTurn, IsBegunAt, HasDeviceUnder, LeavesGoing, Station, WorkGoesOn}
+use Rattle.schedule.proofs.Words.{◌≡◌, ℕ, ◌-◌, List, Some, refl, sym, ◌∙◌, ap, subst, arith, slice_get, RingRead, JoinRun, Item, Kept, World, ScriptCall, Script, calls_of, width_step_where, Checked, Joins, More, BeginsJoining, IsAttachRunOf, Core, attach_joins_stands, commit_begins_calls, few_out, Client, UnderWay, TakesTurn, IsBegunAt, HasDeviceUnder, LeavesGoing, Station, WorkGoesOn}
 use Rattle.core_state.specs.declared.item.Group.{Group as GroupItem}
 use Rattle.schedule.specs.declared.client.Work.TheVariants as work
 use Rattle.schedule.proofs.AttachCommits.{attach_makes}
 use Rattle.schedule.proofs.Begun.{begun_now}
 use Rattle.schedule.proofs.RunsGoOn.{commit_begins, nobody_commits, stands_idle}
 use Rattle.schedule.proofs.Theirs.{same_attach}
-use Rattle.schedule.proofs.TurnComes.{GoesFrom, its_attach, its_known}
+use Rattle.schedule.proofs.TurnComes.{GoesFrom, ItComes, its_attach, its_known}
 
 -- A group that was begun when no attach was known to be due may be an attach's.
 begun_tells : {told : Type 0} {world : World} {items : List Item} {item : GroupItem} {after : ℕ} {next : Kept}
@@ -29,8 +29,7 @@ module _ {script : Script} {actor : ℕ} {before after : Station} {clients news 
   of_core = its_attach from
 
   -- The commit of an attach begins.
-  pub attach_joins : LeavesGoing actor call before after under (More (work.Attach (Joins join)))
-      → Comes script actor before after clients news
+  pub attach_joins : LeavesGoing actor call before after under (More (work.Attach (Joins join))) → ItComes takes
   attach_joins further = attach_makes from (Joins join) goes
       (nobody_commits actor takes.schedule.going joins.begins.none) refl refl
       further (search commit_begins_calls) of joins.begins.of (ap (λ (c : Core). c.attaching) joins.begins.rest)

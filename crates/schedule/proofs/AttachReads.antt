@@ -1,6 +1,6 @@
 -- What the turns of an attach come to that make no commit, among the other clients' calls: the reads of the new device,
 -- and an attach that ends with them.
-use Rattle.schedule.proofs.Words.{◌≡◌, arith, call_of_client, MakesCommit, ◌≢◌, inl, ℕ, ◌-◌, List, Some, None, refl, sym, ◌∙◌, ap, subst, slice_get, Disk, Lawful, Unchanged, later_refl, Uber, ReadsSlot, RingRead, one_more_read, IsOnInUse, read_touches, unchanged_none, Answer, Entry, Item, Map, PutBytes, map_after_answer, map_of, World, ScriptCall, Script, calls_of, AttachRun, Reads, Checked, Signs, More, Done, AttachGoesOn, FindsFree, HoldsAttach, IsAttachRunOf, IsDeviceRefused, ReadsNext, StopsAttach, WaitsForCommit, attach_commit, IsSyncRefused, Core, CoreState, HasBankOf, IsCore, at_disk, HasTooManyOut, Stands, attaching_calls, attaching_stands, look_stands, attaching_commit, rests, since_read, Client, UnderWay, Comes, TakesTurn, IsGroupKind, Past, IsRightNext, AreGoing, Runs, calls_under_way, commit_in, held_under, setting_now, made_by, LeavesGoing, Station, WorkGoesOn, entry_for}
+use Rattle.schedule.proofs.Words.{◌≡◌, arith, call_of_client, MakesCommit, ◌≢◌, inl, ℕ, ◌-◌, List, Some, None, refl, sym, ◌∙◌, ap, subst, slice_get, Disk, Lawful, Unchanged, later_refl, Uber, ReadsSlot, RingRead, one_more_read, IsOnInUse, read_touches, unchanged_none, Answer, Entry, Item, Map, PutBytes, map_after_answer, map_of, World, ScriptCall, Script, calls_of, AttachRun, Reads, Checked, Signs, More, Done, AttachGoesOn, FindsFree, HoldsAttach, IsAttachRunOf, IsDeviceRefused, ReadsNext, StopsAttach, WaitsForCommit, attach_commit, IsSyncRefused, Core, CoreState, HasBankOf, IsCore, at_disk, HasTooManyOut, Stands, attaching_calls, attaching_stands, look_stands, attaching_commit, rests, since_read, Client, UnderWay, TakesTurn, IsGroupKind, Past, IsRightNext, AreGoing, Runs, calls_under_way, commit_in, held_under, setting_now, made_by, LeavesGoing, Station, WorkGoesOn, entry_for}
 use Rattle.core_state.specs.declared.answer.Answer.TheVariants as answer
 use Rattle.schedule.specs.declared.client.Work.TheVariants as work
 use Rattle.schedule.proofs.AttachUses.{refused_plain, sync_plain}
@@ -59,8 +59,7 @@ module _ {script : Script} {actor : ℕ} {before after : Station} {clients news 
       → ((world : World) (past : Past) (runs : Runs world script past
       (at_disk old after.state.disk) before.items clients)
       → HoldsAttach (setting_now runs) runs.last runs.begun after.state.disk next)
-      → LeavesGoing actor call before after under (More (work.Attach next))
-      → Comes script actor before after clients news
+      → LeavesGoing actor call before after under (More (work.Attach next)) → ItComes takes
   attach_looks next core unchanged next_early of holds further = comes_further from (work.Attach next)
       (attach_on from goes) further refl
       (going_goes takes.was takes.changes takes.schedule.going (rw (core, same) takes.schedule.going.are)
@@ -99,7 +98,7 @@ module _ {script : Script} {actor : ℕ} {before after : Station} {clients news 
       → OfRuns takes (λ world past runs. IsRightNext world before.items
       (entry_for call actor before.client.begun under.at given) after.state.disk)
       → StopsAttach before.state after.state → EndsPlainly given None
-      → LeavesGoing actor call before after under (Done given) → Comes script actor before after clients news
+      → LeavesGoing actor call before after under (Done given) → ItComes takes
   attach_stops given fits no_full no_block right stops plain leaves = comes_last from given leaves (attach_on from goes)
       (leaves.0 ∙ plain_listed now before.items under.at entry
       (rw (← ap made_by does_is ∙ made_none run none) at plain)) fits no_full

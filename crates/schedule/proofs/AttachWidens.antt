@@ -1,5 +1,5 @@
 -- What the turn of an attach comes to in which its device joins the pool, among the other clients' calls.
-use Rattle.schedule.proofs.Words.{◌≡◌, [], ◌∷◌, inr, ℕ, ◌+◌, ◌-◌, ◌<◌, List, Some, None, refl, sym, ◌∙◌, ap, subst, arith, slice_get, cases_lt, slice_get-map, Disk, Lays, CommitRun, IsWidenable, widened_kept, Asked, Kept, AwaitsAttach, World, JoinRun, ScriptCall, Script, calls_of, Joins, Signs, More, GoOutAndReach, IsAttachRunOf, StepsJoin, Core, HasBankOf, AreCallsOf, HoldingCall, join_joins_since, join_joins_stands, reaching_on, few_out, calls_beside, Client, UnderWay, answered_of, Comes, TakesTurn, IsWorldOf, Past, IsBegunAt, Runs, setting_now, HasDeviceUnder, LeavesGoing, Station, WorkGoesOn}
+use Rattle.schedule.proofs.Words.{◌≡◌, [], ◌∷◌, inr, ℕ, ◌+◌, ◌-◌, ◌<◌, List, Some, None, refl, sym, ◌∙◌, ap, subst, arith, slice_get, cases_lt, slice_get-map, Disk, Lays, CommitRun, IsWidenable, widened_kept, Asked, Kept, AwaitsAttach, World, JoinRun, ScriptCall, Script, calls_of, Joins, Signs, More, GoOutAndReach, IsAttachRunOf, StepsJoin, Core, HasBankOf, AreCallsOf, HoldingCall, join_joins_since, join_joins_stands, reaching_on, few_out, calls_beside, Client, UnderWay, answered_of, TakesTurn, IsWorldOf, Past, IsBegunAt, Runs, setting_now, HasDeviceUnder, LeavesGoing, Station, WorkGoesOn}
 use Rattle.core_state.specs.declared.answer.Kind.TheVariants as kind
 use Rattle.join_commit.specs.declared.join_run.JoinStep.TheVariants as step
 use Rattle.core_turns.proofs.Frames.{calls_stay as core_calls}
@@ -10,7 +10,7 @@ use Rattle.schedule.proofs.Running.{head_is}
 use Rattle.schedule.proofs.RunsGoOn.{commit_runs, only_known}
 use Rattle.schedule.proofs.Syncs.{begun_parity}
 use Rattle.schedule.proofs.Theirs.{same_attach, some_is}
-use Rattle.schedule.proofs.TurnComes.{GoesFrom, alone, its_asked, its_attach, its_commit, its_known, its_recorded, its_stands, only}
+use Rattle.schedule.proofs.TurnComes.{GoesFrom, ItComes, alone, its_asked, its_attach, its_commit, its_known, its_recorded, its_stands, only}
 
 asking : ScriptCall → Asked
 asking call = record { kind = call.kind; id = call.id }
@@ -96,17 +96,13 @@ module _ {script : Script} {actor : ℕ} {before after : Station} {clients news 
       last : (runs.last.uber.reflow.from ≡ runs.item.from) × (runs.last.uber.reflow.to ≡ runs.item.to)
       last = runs.recorded.item_is.widths
 
-      alike : old.pool.uber.reflow ≡ runs.last.uber.reflow
-      alike = search arith
-
       at_rest : runs.last.uber.reflow.to ≡ runs.last.uber.reflow.from
-      at_rest = search (alike, arith)
+      at_rest = search arith
 
       next_from : next.uber.reflow.from ≡ runs.last.uber.reflow.from
       next_from = search at_rest
 
-  pub join_joins : LeavesGoing actor call before after under (More (work.Attach (Signs made None)))
-      → Comes script actor before after clients news
+  pub join_joins : LeavesGoing actor call before after under (More (work.Attach (Signs made None))) → ItComes takes
   join_joins further = attach_makes from (Signs made None) goes (only from refl) refl refl further
       (search (core_calls, reaching_on, reaching_calls)) of of.0.of (ap (λ (c : Core). c.attaching) core)
       (ap (λ (c : Core). c.committing) core ∙ (its_commit from refl).1)

@@ -6,9 +6,6 @@ use Rattle.core_open.proofs.Written.{none_listed}
 use Rattle.schedule.proofs.Fitting.{FitSince, device_cause_on, fit_same}
 use Rattle.schedule.proofs.Fulls.{FullStays, full_same}
 
-few_or_many : (out parity : ℕ) → (count_of out ≤ parity) ⊎ (parity < count_of out)
-few_or_many out parity = search (cases_lt, arith)
-
 none_out : (device : ℕ) → has_device 0 device ≡ true → ⊥
 none_out device out = true≢false (sym out ∙ none_in device)
 
@@ -27,7 +24,7 @@ bears out parity later still = ⊎_elim
       (λ few. absurd (omega (arith, few, many))),
       (λ many device is. is),
       (λ device is. absurd (none_out device is)),
-    )) (few_or_many out parity)
+    )) (search (cases_lt, arith))
 
 -- A turn of a call that is no attach goes on so,
 pub goes_for : {before after : CoreState} {script : Script} → TurnGoesOn before after → GoesOnFor script before after
@@ -172,7 +169,7 @@ module _ (script : Script) (start middle now : Turns) (one two : List TurnTaken)
         (first.borne, first.few, first.from_start, first.stopped, search arith),
         (λ device out. out),
         (λ device out. absurd (none_out device (second.stopped many device out))),
-      )) (few_or_many middle.state.core.pool.out middle.state.core.pool.uber.parity)
+      )) (search (cases_lt, arith))
 
   -- What stood at the start stands where the first turns led to.
   stands_then : (world : World) (past : Past) → IsWorldOf script world

@@ -1,5 +1,5 @@
 -- What the first turn of a copy comes to, among the other clients' calls.
-use Rattle.schedule.proofs.Words.{◌≡◌, ℕ, List, refl, sym, subst, arith, Some, None, slice_get, slice_get_within, Disk, Answer, map_of, CommitRun, ScriptCall, Script, calls_of, CopyRun, Copies, Commits, More, Busy, Done, at_disk, BeginsJobSo, BeginsRound, Stands, rests, job_begins_calls, job_begins_stands, Comes, TakesTurn, calls_under_way, setting_now, LeavesBegun, Station, Client}
+use Rattle.schedule.proofs.Words.{◌≡◌, ℕ, List, refl, arith, Some, None, slice_get, slice_get_within, Answer, CommitRun, ScriptCall, Script, calls_of, CopyRun, Copies, Commits, More, Busy, Done, BeginsJobSo, BeginsRound, rests, job_begins_calls, job_begins_stands, TakesTurn, LeavesBegun, Station, Client}
 use Rattle.core_state.specs.declared.answer.Kind.TheVariants as kind
 use Rattle.schedule.specs.declared.client.Work.TheVariants as work
 use Rattle.schedule.proofs.CommitWorks.{copy_makes}
@@ -9,7 +9,7 @@ use Rattle.schedule.proofs.LeavesPool.{LeavesPool, holds_left, job_begun_leaves}
 use Rattle.schedule.proofs.Running.{with_same}
 use Rattle.schedule.proofs.SyncComes.{commit_comes}
 use Rattle.schedule.proofs.Theirs.{calls_of_others, idle_no_attach}
-use Rattle.schedule.proofs.TurnComes.{Dropped, comes_begun, comes_nowhere, comes_refused, first_entry, held_gains}
+use Rattle.schedule.proofs.TurnComes.{Dropped, ItComes, comes_begun, comes_nowhere, comes_refused, first_entry, held_gains}
 
 module _ {script : Script} {actor : ℕ} {before after : Station} {clients news : List Client} {call : ScriptCall}
     (takes : TakesTurn script actor before after clients news) (asked : call.kind ≡ kind.Copy) (no_id : call.id ≡ None)
@@ -21,8 +21,7 @@ module _ {script : Script} {actor : ℕ} {before after : Station} {clients news 
 
   -- A copy begins with a job, which holds its sectors alone,
   pub copy_begins : (run : CopyRun) → BeginsJobSo old now actor run
-      → LeavesBegun actor call before after (More (work.Copy (Copies run)))
-      → Comes script actor before after clients news
+      → LeavesBegun actor call before after (More (work.Copy (Copies run))) → ItComes takes
   copy_begins run begins leaves =
       let gains = held_gains takes idle change disk next leaves refl in
       comes_begun takes idle change disk next leaves refl tt (cc) (asked, no_id)
@@ -30,9 +29,7 @@ module _ {script : Script} {actor : ℕ} {before after : Station} {clients news 
       (λ world past runs. (
         runs.contents actor,
         tt,
-        rw (with_same runs.contents actor) (subst (λ (d : Disk). Stands (setting_now runs) runs.last runs.begun
-            (map_of world.handed world.opening before.items) runs.contents (calls_under_way news) runs.commit
-            (at_disk now d)) (sym disk) (job_begins_stands actor takes.is begins gains runs.stands)),
+        rw (with_same runs.contents actor, disk) (job_begins_stands actor takes.is begins gains runs.stands),
       ))
     where
       change : LeavesPool old now
@@ -40,20 +37,19 @@ module _ {script : Script} {actor : ℕ} {before after : Station} {clients news 
 
   -- or with a commit.
   pub copy_commits : (run : CommitRun) → BeginsRound old now actor (More (Commits run))
-      → LeavesBegun actor call before after (More (work.Copy (Commits run)))
-      → Comes script actor before after clients news
+      → LeavesBegun actor call before after (More (work.Copy (Commits run))) → ItComes takes
   copy_commits run begins leaves =
       commit_comes copy_makes call takes (asked, no_id) (cc) (idle_no_attach idle) disk begins.1 begins.2
       (search arith) leaves.0 leaves.1 (cc) (search (slice_get_within, arith))
 
   -- A copy waits for another's call.
   pub copy_waits : {by : ℕ} → BeginsRound old now actor (Busy by) → LeavesBegun actor call before after (Busy by)
-      → Comes script actor before after clients news
+      → ItComes takes
   copy_waits waits leaves = comes_nowhere takes (search arith)
 
   -- A copy is answered at once.
   pub copy_at_once : (given : Answer) → BeginsRound old now actor (Done given)
-      → LeavesBegun actor call before after (Done given) → Comes script actor before after clients news
+      → LeavesBegun actor call before after (Done given) → ItComes takes
   copy_at_once given refused leaves =
       comes_refused takes idle (holds_left refused.1) disk next refused.1 leaves (search (group_fits, arith))
       answers.no_full answers.no_block

@@ -1,12 +1,12 @@
 -- What a free comes to.
-use Rattle.schedule.proofs.Words.{◌≡◌, inr, ℕ, List, Some, None, refl, ap, slice_get, option_and_then, Disk, Answer, Entry, Map, PutBytes, map_of, map_after_answer, IsAnswerOf, IsRightFree, found_id, found_listed, map_after_free, HoldsMap, ScriptCall, Script, calls_of, Core, at_disk, pool_at, FreesBlock, Done, frees_calls, frees_stands, Client, Station, Frees, LeavesBegun, TakesTurn, Comes, calls_under_way, arith}
+use Rattle.schedule.proofs.Words.{◌≡◌, inr, ℕ, List, Some, None, refl, ap, slice_get, option_and_then, Disk, Answer, Entry, Map, PutBytes, map_of, map_after_answer, IsAnswerOf, IsRightFree, found_id, found_listed, map_after_free, HoldsMap, ScriptCall, Script, calls_of, Core, at_disk, pool_at, FreesBlock, Done, frees_calls, frees_stands, Client, Station, Frees, LeavesBegun, TakesTurn, calls_under_way, arith}
 use Rattle.core_state.specs.declared.answer.Answer.TheVariants as answer
 use Rattle.core_state.specs.declared.answer.Kind.TheVariants as kind
 use Rattle.schedule.proofs.Fitting.{no_device_cause, plain_no_limit}
 use Rattle.schedule.proofs.RightNext.{IsPlain, free_right}
 use Rattle.schedule.proofs.Theirs.{none_some}
 use Rattle.schedule.proofs.LeavesPool.{LeavesPool, holds_left}
-use Rattle.schedule.proofs.TurnComes.{first_entry, comes_at_once}
+use Rattle.schedule.proofs.TurnComes.{ItComes, comes_at_once, first_entry}
 use Rattle.schedule.proofs.Fulls.{put_alone}
 
 -- The pool stays, the answer is one to a free, and the map after it is the one that a free leaves.
@@ -42,7 +42,7 @@ module _ {script : Script} {actor : ℕ} {before after : Station} {clients news 
     (frees : Frees before.state.core after.state.core id given) (disk : after.state.disk ≡ before.state.disk)
     (left : LeavesBegun actor call before after (Done given)) where
   -- A free is answered at once.
-  pub free_at_once : Comes script actor before after clients news
+  pub free_at_once : ItComes takes
   free_at_once =
       let of = frees_so before.state.core after.state.core id given frees.frees in
       comes_at_once takes idle of.pool disk next left (record {

@@ -1,5 +1,5 @@
 -- What the first turn of a client's put comes to.
-use Rattle.schedule.proofs.Words.{◌≡◌, ◌≢◌, ℕ, List, length, Some, None, refl, sym, subst, Contains, slice_get, AreBytes, Answer, Entry, map_of, ScriptCall, fill_bytes, Script, calls_of, PutRun, More, Busy, Done, BeginsPutTurn, LeavesBlocks, HoldingCall, actor_of, keeps_gained, begins_rearranges, put_begins_calls, put_refused_calls, put_begins_stands, put_refused_stands, Client, calls_under_way, Station, LeavesBegun, TakesTurn, Comes}
+use Rattle.schedule.proofs.Words.{◌≡◌, ◌≢◌, ℕ, List, length, Some, None, refl, sym, subst, Contains, slice_get, AreBytes, Answer, Entry, map_of, ScriptCall, fill_bytes, Script, calls_of, PutRun, More, Busy, Done, BeginsPutTurn, LeavesBlocks, HoldingCall, actor_of, keeps_gained, begins_rearranges, put_begins_calls, put_refused_calls, put_begins_stands, put_refused_stands, Client, calls_under_way, Station, LeavesBegun, TakesTurn}
 use Rattle.core_state.specs.declared.answer.Kind.TheVariants as kind
 use Rattle.schedule.specs.declared.client.Work.TheVariants as work
 use Rattle.schedule.proofs.Fitting.{IsPlainKind, fits, plain_no_limit}
@@ -7,7 +7,7 @@ use Rattle.schedule.proofs.RightNext.{put_right}
 use Rattle.schedule.proofs.Theirs.{calls_of_others}
 use Rattle.schedule.proofs.Fulls.{full_put}
 use Rattle.schedule.proofs.Running.{sets_content}
-use Rattle.schedule.proofs.TurnComes.{OfRuns, StandsNow, comes_at_once, comes_begun, comes_waiting, first_entry, held_gains}
+use Rattle.schedule.proofs.TurnComes.{ItComes, OfRuns, StandsNow, comes_at_once, comes_begun, comes_waiting, first_entry, held_gains}
 use Rattle.schedule.proofs.Puts.{Refuses, put_refused, unstored_plain, unstored_answers, unstored_map, rearranged_leaves, refused_leaves}
 use Rattle.schedule.proofs.LeavesPool.{LeavesPool}
 
@@ -24,7 +24,7 @@ module _ {script : Script} {actor : ℕ} {before after : Station} {clients news 
 
   -- It begins on sectors that no other call has.
   pub put_begins : (run : PutRun) → AreBytes content → BeginsPutTurn old now actor id (length content) (More run)
-      → LeavesBegun actor call before after (More (work.Put run)) → Comes script actor before after clients news
+      → LeavesBegun actor call before after (More (work.Put run)) → ItComes takes
   put_begins run are begins begun =
       let gains = held_gains takes idle change disk next begun refl in
       comes_begun takes idle change disk next begun refl tt (cc) (asked, cc, cc) (search (put_begins_calls, others))
@@ -49,12 +49,12 @@ module _ {script : Script} {actor : ℕ} {before after : Station} {clients news 
 
   -- One that finds another's sectors in its way waits.
   pub put_waits : {by : ℕ} → BeginsPutTurn old now actor id (length content) (Busy by)
-      → LeavesBegun actor call before after (Busy by) → Comes script actor before after clients news
+      → LeavesBegun actor call before after (Busy by) → ItComes takes
   put_waits waits leaves = search (comes_waiting, refused_leaves, put_refused_calls, refused_stands)
 
   -- One is refused: too many devices are out, the table is full, no run of free sectors fits, or memory is wanting.
   pub put_at_once : (given : Answer) → BeginsPutTurn old now actor id (length content) (Done given)
-      → LeavesBegun actor call before after (Done given) → Comes script actor before after clients news
+      → LeavesBegun actor call before after (Done given) → ItComes takes
   put_at_once given is leaves =
       let refuses : Refuses old now given = put_refused id (length content) given is in
       let entry : Entry = first_entry call actor before given in

@@ -1,5 +1,5 @@
 -- A put is filled in, and how it ends.
-use Rattle.schedule.proofs.Words.{◌≡◌, ◌≢◌, ◌⊎◌, inl, inr, ℕ, List, ◌∷◌, length, Option, Some, refl, sym, subst, Gains, Answer, Map, Kept, Setting, CommitRun, ScriptCall, fill_bytes, Filled, PutRun, Done, Core, CoreState, EndsPut, GivesUp, GivesUpTurn, IsStoppedPut, StoresBlock, HoldingCall, Putting, AreCallsOf, Stands, put_fills_calls, put_fills_stands, EndsPutting, IsFilledIn, arith}
+use Rattle.schedule.proofs.Words.{◌≡◌, ◌≢◌, ◌⊎◌, inl, inr, ℕ, List, ◌∷◌, length, Option, Some, refl, sym, subst, Gains, Answer, Map, Kept, Setting, CommitRun, ScriptCall, fill_bytes, Filled, PutRun, Done, Core, CoreState, GivesUp, GivesUpTurn, IsStoppedPut, StoresBlock, HoldingCall, Putting, AreCallsOf, Stands, put_fills_calls, put_fills_stands, EndsPutting, IsFilledIn, arith}
 use Rattle.core_state.specs.declared.answer.Answer.TheVariants as answer
 use Rattle.schedule.proofs.Fitting.{TellsOut}
 use Rattle.schedule.proofs.Puts.{IsUnstored, tells_out}
@@ -70,11 +70,6 @@ given_up_turn answer.NoMemory is =
 given_up_turn (answer.TooManyFailed out) is = given_up_stopped is
 given_up_turn other is = absurd is
 
--- Once all is written, its block is stored or the put is given up.
-stored_or_given_up : {old new : Core} {run : PutRun} (given : Answer) → EndsPut old run new (Done given)
-    → ((given ≡ answer.Stored) × StoresBlock old new run) ⊎ IsGivenUp old new run given
-stored_or_given_up given is = grind (arith, given_up_stopped)
-
 -- All of it was written.
 abbrev pub IsWhole : PutRun → Type 0
 IsWhole run = (filled : Filled) × (run.filled ≡ Some filled) × (filled.write.next ≡ length filled.write.writes)
@@ -84,4 +79,4 @@ pub put_ended : (before after : CoreState) (call : ScriptCall) (run : PutRun) (g
     → (ends : EndsPutting before after call run given)
     → ((given ≡ answer.Stored) × StoresBlock before.core after.core ends.filled × IsWhole ends.filled)
     ⊎ IsGivenUp before.core after.core ends.filled given
-put_ended before after call run given ends = grind (arith, given_up_stopped, stored_or_given_up, given_up_turn)
+put_ended before after call run given ends = grind (arith, given_up_stopped, given_up_turn)

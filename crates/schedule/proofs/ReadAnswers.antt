@@ -9,10 +9,6 @@ use Rattle.schedule.proofs.Lists.{gains_first}
 
 -- ---- answers
 
--- A read may be told that its block is absent, or damaged.
-lacks_of : (asked : Kind) → IsReadKind asked → IsAnswerOf asked answer.Absent × IsAnswerOf asked answer.Damaged
-lacks_of asked is = grind arith
-
 -- the point that a read's answer speaks of
 point_read : (asked : Kind) (at : ℕ) (given : Answer) → IsReadKind asked
     → point_after asked at given ≡ read_point at given
@@ -45,7 +41,7 @@ right_read world {items = items} {disk = disk} call actor {number = number} {at 
 -- Why a read was refused is an answer to it,
 pub refused_of : (core : Core) (id : ℕ) (asked : Kind) (given : Answer) → IsReadKind asked → IsGetRefused core id given
     → IsAnswerOf asked given
-refused_of core id asked given is refused = grind (arith, lacks_of)
+refused_of core id asked given is refused = grind arith
 
 -- and right, whatever the map has, where that has nothing at the id if it says so.
 pub refused_right : (core : Core) (id : ℕ) {held : Option (List ℕ)} (asked : Kind) (given : Answer)
@@ -55,7 +51,7 @@ refused_right core id asked given none refused = grind arith
 -- What was solved is answered so, and never that too many devices are out or of a limit.
 solved_of : (run : GetRun) (solved : Solved) {given : Answer} → IsReadKind run.kind → AnswersSolved run solved given
     → IsAnswerOf run.kind given × ((out : ℕ) → given ≡ answer.TooManyFailed out → ⊥) × NoLimit given
-solved_of run solved is answers = grind (arith, lacks_of)
+solved_of run solved is answers = grind arith
 
 -- ---- the end of a read
 

@@ -1,5 +1,5 @@
 -- What the turns of reads come to.
-use Rattle.schedule.proofs.Words.{◌≡◌, ◌≢◌, ℕ, ◌-◌, List, Some, None, refl, sym, ◌∙◌, ap, subst, arith, Contains, slice_get, option_and_then, Disk, Hold, Gains, Answer, Kind, Entry, Map, map_of, map_after, IsAnswerOf, found_id, gains_item, IsReadRight, ScriptCall, Script, calls_of, map_at_end, GetRun, More, Busy, Done, at_disk, IsReadKind, BeginsGet, HoldingCall, Reading, Stands, TurnGoesOn, actor_of, since_read, get_finds, keeps_gained, get_begins_stands, get_reads_stands, get_begins_calls, get_reads_calls, Client, UnderWay, IsWorkFor, calls_under_way, setting_now, Station, GoesOnReading, EndsReading, LeavesBegun, LeavesGoing, entry_for, TakesTurn}
+use Rattle.schedule.proofs.Words.{◌≡◌, ◌≢◌, ℕ, ◌-◌, List, Some, None, refl, sym, ◌∙◌, ap, subst, arith, Contains, slice_get, option_and_then, Hold, Gains, Answer, Kind, Entry, Map, map_of, map_after, IsAnswerOf, found_id, gains_item, IsReadRight, ScriptCall, Script, calls_of, map_at_end, GetRun, More, Busy, Done, IsReadKind, BeginsGet, HoldingCall, Reading, TurnGoesOn, actor_of, since_read, get_finds, keeps_gained, get_begins_stands, get_reads_stands, get_begins_calls, get_reads_calls, Client, UnderWay, IsWorkFor, calls_under_way, Station, GoesOnReading, EndsReading, LeavesBegun, LeavesGoing, entry_for, TakesTurn}
 use Rattle.core_state.specs.declared.answer.Answer.TheVariants as answer
 use Rattle.schedule.specs.declared.client.Work.TheVariants as work
 use Rattle.schedule.proofs.Fitting.{fits, read_plain_kind}
@@ -35,9 +35,7 @@ module _ {script : Script} {actor : ℕ} {before after : Station} {clients news 
           found.0,
           ap (λ (m : Map). m run.entry.id) (map_at_end world.handed world.opening before.items) ∙ ap map entry_id
               ∙ found.1,
-          subst (λ (d : Disk). Stands (setting_now runs) runs.last runs.begun map
-              (with_content runs.contents actor found.0) (calls_under_way news) runs.commit (at_disk now d)) (sym disk)
-              (found.2 (with_content runs.contents actor found.0) (calls_under_way news)
+          rw disk (found.2 (with_content runs.contents actor found.0) (calls_under_way news)
               (sets_content runs.contents actor found.0) gains),
         ))
       where

@@ -1,5 +1,5 @@
 -- What the first turn of a sync comes to, among the other clients' calls.
-use Rattle.schedule.proofs.Words.{◌≡◌, ℕ, ◌+◌, ◌-◌, ◌≤◌, List, [], ◌∷◌, length, Some, None, refl, sym, ◌∙◌, ap, subst, arith, slice_get, slice_get_within, Reflow, IsTable, Uber, KeepsOrEnds, Answer, Kind, Map, CommitRun, ScriptCall, Script, calls_of, More, Busy, Done, Core, BeginsCommit, BeginsCommitSo, few_out, rests, commit_begins_calls, commit_begins_stands, turn_still, Client, Work, call_of_client, calls_under_way, held_under, Station, LeavesBegun, TakesTurn, Comes, IsGroupKind}
+use Rattle.schedule.proofs.Words.{◌≡◌, ℕ, ◌+◌, ◌-◌, ◌≤◌, List, [], ◌∷◌, length, Some, None, refl, sym, ◌∙◌, ap, subst, arith, slice_get, slice_get_within, Reflow, IsTable, Uber, KeepsOrEnds, Answer, Kind, Map, CommitRun, ScriptCall, Script, calls_of, More, Busy, Done, Core, BeginsCommit, BeginsCommitSo, few_out, rests, commit_begins_calls, commit_begins_stands, turn_still, Client, Work, call_of_client, calls_under_way, held_under, Station, LeavesBegun, TakesTurn, IsGroupKind}
 use Rattle.core_state.specs.declared.answer.Kind.TheVariants as kind
 use Rattle.schedule.specs.declared.client.Work.TheVariants as work
 use Rattle.schedule.proofs.CommitWorks.{MakesGroups, sync_makes}
@@ -11,7 +11,7 @@ use Rattle.schedule.proofs.Going.{commits_on, keeps_attach}
 use Rattle.schedule.proofs.RunsGoOn.{commit_begins, nobody_commits, stands_idle}
 use Rattle.schedule.proofs.Fitting.{group_fits}
 use Rattle.schedule.proofs.LeavesPool.{holds_left}
-use Rattle.schedule.proofs.TurnComes.{comes_nowhere, comes_refused, comes_under}
+use Rattle.schedule.proofs.TurnComes.{ItComes, comes_nowhere, comes_refused, comes_under}
 use Rattle.schedule.proofs.Refusals.{sync_cause}
 use Rattle.schedule.proofs.Syncs.{refused_answers, refused_tells, refused_map, refused_right}
 
@@ -31,8 +31,7 @@ module _ {script : Script} {actor : ℕ} {before after : Station} {clients news 
       → after.items ≡ before.items → after.client ≡ record {
         begun = number;
         under_way = Some (record { at = length before.items; work = does run });
-      } → answered before.client + 1 ≡ number → number ≤ length (calls_of script actor)
-      → Comes script actor before after clients news
+      } → answered before.client + 1 ≡ number → number ≤ length (calls_of script actor) → ItComes takes
   commit_comes {number = number} {run = run} table begins is items client_is number_is low =
       comes_under takes (goes_for (turn_still before.state after.state (ap (λ (c : Core). c.pool.uber) begins.rest)
       (ap (λ (c : Core). c.reach) begins.rest) (ap (λ (c : Core). c.pool.out) begins.rest) disk))
@@ -53,8 +52,7 @@ module _ {script : Script} {actor : ℕ} {before after : Station} {clients news 
       let its = begun_now runs.recorded (let group = made.2 in omega (arith, group, begun, rest, last))
       (subst (λ (r : Reflow). KeepsOrEnds r made.0.uber.reflow) (ap (λ (u : Uber). u.reflow) runs.stands.alike) made.3)
       (λ id. ap (λ (m : Map). m id) made.1) in
-      commit_begins takes runs runs.reach run
-      (unmade.groups.whole (few_out core begins.few)).0 alone.0
+      commit_begins takes runs runs.reach run (unmade.groups.whole (few_out core begins.few)).0 alone.0
       (makes.commit run) (ap (λ (r : CommitRun). r.stage) begins.run_is) disk client_is
       (makes.begins world before.items runs.item (made.0 ∷ []) (length before.items) run (made.0, refl, its))
       (λ asked. makes.content world before.items asked (length before.items) (runs.contents actor) run)
@@ -78,21 +76,20 @@ module _ {script : Script} {actor : ℕ} {before after : Station} {clients news 
 
   -- A sync begins with its commit.
   pub sync_begins : (run : CommitRun) → IsTable old.pool.blocks.table → BeginsCommit old now actor (More run)
-      → LeavesBegun actor call before after (More (work.Sync run)) → Comes script actor before after clients news
+      → LeavesBegun actor call before after (More (work.Sync run)) → ItComes takes
   sync_begins run table begins leaves =
       commit_comes sync_makes call takes (asked, no_id) (ap held_under idle) (idle_no_attach idle) disk table begins
-      (search arith) leaves.0 leaves.1
-      (ap (λ (n : ℕ). n + 1) (answered_idle idle))
+      (search arith) leaves.0 leaves.1 (ap (λ (n : ℕ). n + 1) (answered_idle idle))
       (let low = slice_get_within (calls_of script actor) before.client.begun call next in omega (arith, low))
 
   -- A sync waits for another's.
   pub sync_waits : {by : ℕ} → BeginsCommit old now actor (Busy by) → LeavesBegun actor call before after (Busy by)
-      → Comes script actor before after clients news
+      → ItComes takes
   sync_waits waits leaves = comes_nowhere takes (search arith)
 
   -- A sync is answered at once.
   pub sync_at_once : (given : Answer) → BeginsCommit old now actor (Done given)
-      → LeavesBegun actor call before after (Done given) → Comes script actor before after clients news
+      → LeavesBegun actor call before after (Done given) → ItComes takes
   sync_at_once given refused leaves =
       comes_refused takes idle (holds_left refused.1) disk next refused.1 leaves
       (search (group_fits, refused_answers, refused_tells, sync_cause, arith)) (λ full. rw full at refused.0)
