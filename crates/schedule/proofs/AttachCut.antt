@@ -1,5 +1,5 @@
 -- What a turn of an attach comes to in which its commit is cut short, among the other clients' calls.
-use Rattle.schedule.proofs.Words.{◌≡◌, ap, held_under, ℕ, ◌-◌, List, Some, None, refl, sym, subst, slice_get, CommitRun, Answer, ScriptCall, Script, calls_of, AttachRun, Done, IsTooMany, StopsAttach, attach_commit, at_disk, HasTooManyOut, attaching_calls, attaching_stands, look_stands, since_read, Client, UnderWay, TakesTurn, calls_under_way, setting_now, LeavesGoing, Station, WorkGoesOn}
+use Rattle.schedule.proofs.Words.{◌≡◌, arith, ap, held_under, ℕ, ◌-◌, List, Some, None, refl, sym, subst, slice_get, CommitRun, Answer, ScriptCall, Script, calls_of, AttachRun, Done, IsTooMany, StopsAttach, attach_commit, at_disk, HasTooManyOut, attaching_calls, attaching_stands, look_stands, since_read, Client, UnderWay, TakesTurn, calls_under_way, setting_now, LeavesGoing, Station, WorkGoesOn}
 use Rattle.core_state.specs.declared.answer.Answer.TheVariants as answer
 use Rattle.core_state.specs.declared.answer.Kind.TheVariants as kind
 use Rattle.core_turns.proofs.CommitStands.{commit_is_cut as cut_stands}
@@ -56,5 +56,4 @@ module _ {script : Script} {actor : ℕ} {before after : Station} {clients news 
 
   pub attach_cut : (given : Answer) → IsTooMany old given → LeavesGoing actor call before after under (Done given)
       → ItComes takes
-  attach_cut (answer.TooManyFailed out) many leaves = cut out many.0 many.1 leaves
-  attach_cut other many leaves = absurd many
+  attach_cut given many leaves = grind (arith, cut)

@@ -158,8 +158,8 @@ module _ {script : Script} {actor : ℕ} {before after : Station} {clients news 
             widths = closed.0 begun_is.widths;
           },
         ) (whole_recorded from refl runs (its_group from refl runs) (λ awaits. awaits)) stands.groups.begun_is
-        (only from refl) (search arith) (search (number_is, reflow_is)) (rw same stood) refl idle (λ told. told) closed.1
-        (rw asked.0 (end_answers given ended)) (end_map world.handed entry given ended) with
+        (only from refl) (search arith) (search (number_is, reflow_is)) (rw same stood) refl idle
+        (λ told. told) closed.1 (rw asked.0 (end_answers given ended)) (end_map world.handed entry given ended) with
 
   -- ---- what it comes to
 
@@ -173,5 +173,6 @@ module _ {script : Script} {actor : ℕ} {before after : Station} {clients news 
       (λ full. subst IsAttachEnd full ended))
       (going_ends takes.was takes.changes takes.schedule.going (rw (same, ends.core)
       (attaching_calls ends.answered.core None (calls_under_way clients)
-      (commit_ends_calls takes.is of.0.of ends.answers (calls_under_way clients) takes.schedule.going.are))) (alone from) (cc) idle (only from refl)
+      (commit_ends_calls takes.is of.0.of ends.answers (calls_under_way clients) takes.schedule.going.are)))
+      (alone from) (cc) idle (only from refl)
       (λ its is_committing. cc)) (its_answered from given leaves (answers_group group takes.schedule.answered))

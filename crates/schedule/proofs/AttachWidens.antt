@@ -104,7 +104,7 @@ module _ {script : Script} {actor : ℕ} {before after : Station} {clients news 
 
   pub join_joins : LeavesGoing actor call before after under (More (work.Attach (Signs made None))) → ItComes takes
   join_joins further = attach_makes from (Signs made None) goes (only from refl) refl refl further
-      (search (core_calls, reaching_on, reaching_calls)) of of.0.of (ap (λ (c : Core). c.attaching) core)
+      (search (core_calls, reaching_calls)) of of.0.of (ap (λ (c : Core). c.attaching) core)
       (ap (λ (c : Core). c.committing) core ∙ (its_commit from refl).1)
       (λ same client_is world past of_world within listed runs.
       let failed = within (few_out old did.few) in

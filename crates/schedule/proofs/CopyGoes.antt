@@ -152,7 +152,7 @@ module _ {script : Script} {actor : ℕ} {before after : Station} {clients news 
         (λ world past runs. rw steps.1 (job_ends_stands takes.is ended.2 gains takes.schedule.going.are ended.0 ended.1
         runs.stands)))
         (λ dropped. with (leaves_commit (job_dropped_leaves takes.is (job_of gains) dropped.1))
-        (search (job_drops_calls, job_of, gains))
+        (search (job_drops_calls, gains))
         (λ world past runs. rw steps.1 (job_drops_stands takes.is dropped.1 (job_of gains) gains runs.stands))) steps.2
       where
         gains : Gains (calls_under_way news) (calls_under_way clients) (Copying run)
@@ -173,7 +173,7 @@ module _ {script : Script} {actor : ℕ} {before after : Station} {clients news 
         (job_dropped_leaves takes.is (job_of gains) steps.1) steps.0
         (group_fits old call.kind told (subst IsGroupKind (sym asked_copy.0) tt) tt
         (λ listed same. (steps.2, same_out (cc))) (λ reached same. cc) tt) (λ full. cc)
-        (search (job_drops_calls, job_of, gains))
+        (search (job_drops_calls, gains))
         (λ world past handed runs. (
           search (group_cut_right, told, arith),
           rw steps.0 (job_drops_stands takes.is steps.1 (job_of gains) gains runs.stands),

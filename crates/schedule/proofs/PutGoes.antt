@@ -103,8 +103,8 @@ module _ {script : Script} {actor : ℕ} {before after : Station} {clients news 
         let bytes_are = ap (λ (h : PutBytes). h actor before.client.begun) handed.handed
         ∙ ap (λ (asked : Option ScriptCall). unwrap_or (option_map (λ asked. fill_bytes asked.fill) asked) []) is
         ∙ sym (ap (λ (r : PutRun). runs.contents r.hold.actor) same ∙ content_is runs) in
-        let map_is : map_after_answer world.handed map entry given ≡ with_block map (Some filled.range.id) (Some content)
-        = ap (map_after_answer world.handed map entry) given_is
+        let map_is : map_after_answer world.handed map entry given ≡ with_block map (Some filled.range.id)
+        (Some content) = ap (map_after_answer world.handed map entry) given_is
         ∙ (λ i. with_block map (id_is i) (Some (bytes_are i))) in
         rw map_is (put_ends_stands takes.is stores whole among.gains among.are stood))
       where

@@ -1,5 +1,5 @@
 -- What stood before a turn of one client stands after it, where nothing is listed.
-use Rattle.schedule.proofs.Words.{◌≡◌, Station, TakesTurn, inr, Core, ◌≢◌, ℕ, ◌+◌, ◌-◌, List, [], ◌∷◌, length, Some, None, refl, sym, ◌∙◌, ap, subst, arith, slice_get, slice_get_within, Disk, Later, TouchesOnly, Item, Map, map_of, Option, ⊎_elim, ◌⊎◌, inl, Kept, Setting, World, Lays, CommitRun, IsOnInUse, ScriptCall, Script, calls_of, AttachRun, Reads, Checked, Joins, Signs, HoldsAttach, attach_commit, CoreState, Stands, shown_in, shown_of, IsBeforeCommit, attach_beside, Client, UnderWay, Work, Past, Recorded, AreGoing, HasBegunBy, HasContent, IsClient, IsGoing, MakesCommit, Runs, calls_under_way, commit_in, setting_now, IsTheirs}
+use Rattle.schedule.proofs.Words.{◌≡◌, Station, TakesTurn, inr, Core, ◌≢◌, ℕ, ◌+◌, ◌-◌, List, [], ◌∷◌, length, Some, None, refl, sym, ◌∙◌, ap, subst, arith, slice_get, slice_get_within, Disk, Later, TouchesOnly, Item, Map, map_of, Option, ⊎_elim, ◌⊎◌, inl, Kept, Setting, World, Lays, CommitRun, IsOnInUse, ScriptCall, Script, calls_of, AttachRun, HoldsAttach, attach_commit, CoreState, Stands, shown_in, shown_of, IsBeforeCommit, attach_beside, Client, UnderWay, Work, Past, Recorded, AreGoing, HasBegunBy, HasContent, IsClient, IsGoing, MakesCommit, Runs, calls_under_way, commit_in, setting_now, IsTheirs}
 use Rattle.core_state.specs.declared.item.Group.{Group as GroupItem}
 use Rattle.schedule.specs.declared.client.Work.TheVariants as work
 use Rattle.schedule.proofs.Going.{one_commit}
@@ -11,20 +11,14 @@ use Rattle.schedule.proofs.Theirs.{none_some, run_of, OnlyIt, before_commit, eac
 -- Of an attach that makes no commit it is known on the devices alone.
 pub early_known : (setting now : Setting) (last next : Kept) (begun onward : List Kept) (disk : Disk) (run : AttachRun)
     → IsBeforeCommit run → HoldsAttach setting last begun disk run → HoldsAttach now next onward disk run
-early_known setting now last next begun onward disk (Reads ring) before holds = holds
-early_known setting now last next begun onward disk (Checked ring) before holds = holds
-early_known setting now last next begun onward disk (Joins join) before holds = absurd before
-early_known setting now last next begun onward disk (Signs run because) before holds = absurd before
+early_known setting now last next begun onward disk run before holds = grind arith
 
 -- Where the core has no commit under way, none stands,
 pub stands_idle : {world : World} {script : Script} {past : Past} {before : CoreState} {items : List Item}
     {clients : List Client} (runs : Runs world script past before items clients) → before.core.committing ≡ None
     → (runs.commit ≡ None) × Stands (setting_now runs) runs.last runs.begun (map_of world.handed world.opening items)
     runs.contents (calls_under_way clients) None before
-stands_idle {before = before} {clients = clients} runs idle =
-    let none = no_commit (setting_now runs) runs.last runs.begun (calls_under_way clients) runs.commit before idle
-    runs.stands.groups in
-    (none, rw none at runs.stands)
+stands_idle runs idle = search (no_commit, arith)
 
 -- and no client makes one.
 pub nobody_commits : {script : Script} {core : Core} {clients : List Client} (index : ℕ) → AreGoing script core clients
@@ -180,7 +174,8 @@ module _ {world : World} {script : Script} {past : Past} {index : ℕ} {start le
   -- A call goes on that makes no commit.
   pub goes_on : (under : UnderWay) {does : Work} → IsAttached runs.reach runs.begun does
       → OthersKnown runs.reach runs.begun → Later before.disk after.disk
-      → GoesOnSince (setting_now runs) runs.last (shown_of runs.begun runs.commit) before.disk after.disk → old.under_way ≡ Some under
+      → GoesOnSince (setting_now runs) runs.last (shown_of runs.begun runs.commit) before.disk after.disk
+      → old.under_way ≡ Some under
       → client ≡ record { begun = old.begun; under_way = Some (record { at = under.at; work = does }) }
       → (MakesCommit under.work → ⊥) → (MakesCommit does → ⊥)
       → ((asked : ScriptCall) → slice_get (calls_of script index) (old.begun - 1) ≡ Some asked

@@ -104,7 +104,7 @@ module _ {script : Script} {actor : ℕ} {before after : Station} {clients news 
     }
 
     none_now : {by : ℕ} → now.committing ≡ Some by → HasTooManyOut now
-    none_now its = absurd (none_some (sym (ap (λ (c : Core). c.committing) answers.answers.rest) ∙ its))
+    none_now its = grind (arith, none_some)
 
     ended_are : call_of_client after.client ≡ [] → AreCallsOf now (calls_under_way news)
     ended_are none = rw (same_calls none)
@@ -231,6 +231,4 @@ module _ {script : Script} {actor : ℕ} {before after : Station} {clients news 
 
   pub sync_ends : asked ≡ kind.Sync → (given : Answer) → StepsCommit before.state run after.state (Done given)
       → LeavesGoing actor call before after under (Done given) → ItComes takes
-  sync_ends sync (answer.Synced number) = synced sync number
-  sync_ends sync (answer.TooManyFailed out) = cut out
-  sync_ends sync other = λ steps. absurd steps
+  sync_ends sync given = grind (arith, synced, cut)

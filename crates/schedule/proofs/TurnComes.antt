@@ -38,10 +38,7 @@ IsPlainWork (work.Copy (Commits run)) = ⊥
 IsPlainWork other = ⊤
 
 plain_no_commit : (does : Work) → IsPlainWork does → MakesCommit does → ⊥
-plain_no_commit (work.Sync run) plain makes = plain
-plain_no_commit (work.Attach run) plain makes = plain
-plain_no_commit (work.Copy (Commits run)) plain makes = plain
-plain_no_commit other plain makes = false≢true makes
+plain_no_commit does plain makes = grind (arith, false≢true)
 
 module _ {script : Script} {actor : ℕ} {before after : Station} {clients news : List Client}
     (takes : TakesTurn script actor before after clients news) where
@@ -125,13 +122,9 @@ module _ {script : Script} {actor : ℕ} {before after : Station} {clients news 
       → after.client ≡ record { begun = number; under_way = Some (record { at = at; work = does }) }
       → number ≡ answered before.client + 1 → number ≤ length (calls_of script actor) → AreGoing script now news
       → RunsOn script before after clients news before.items → ItComes
-  comes_under {number = number} goes items client_is number_is low =
-      let less : number - 1 ≡ answered before.client = omega (arith, number_is) in
-      comes_on goes items (ap answered client_is ∙ less) (rw client_is low)
-      (λ under is. rw client_is (omega (arith, number_is)))
+  comes_under goes items client_is number_is low = search (answered, comes_on, client_is, arith)
 
-  -- A turn that lists the answer of the client's next call. Where that is that the table is full, there are too many
-  -- ids.
+  -- A turn that lists the answer of the client's next call; where the table is full for it, there are too many ids.
   pub comes_answered : {call : ScriptCall} {number : ℕ} (at : ℕ) {given : Answer} → number ≡ answered before.client + 1
       → slice_get (calls_of script actor) (answered before.client) ≡ Some call
       → GoesOnFor script before.state after.state
@@ -233,7 +226,8 @@ module _ {script : Script} {actor : ℕ} {before after : Station} {clients news 
             (search (slice_get_within, arith))
             (going_goes takes.was takes.changes takes.schedule.going are (leaves_commit leaves) (idle_no_commit idle)
             (idle_no_attach idle) (the_one (λ its_under. IsWorkOf script now actor after.client its_under.work)
-            (ap (λ (c : Client). c.under_way) begins.1) (search (one_less, no_commit, makes_commit, held_no_attach, arith))))
+            (ap (λ (c : Client). c.under_way) begins.1) (search
+            (one_less, no_commit, makes_commit, held_no_attach, arith))))
             (λ world past handed within listed runs.
             let now = stands world past runs in
             runs_begins takes runs now.0 does
@@ -402,8 +396,7 @@ module _ {script : Script} {actor : ℕ} {before after : Station} {clients news 
         -- in a turn in which it goes on,
         pub halves_recorded : (to : Stage) → HalvesGoOn commit.stage to
             → Recorded world past before.items runs.item runs.last (shown_in runs.begun to) before.state.disk
-        halves_recorded to goes =
-            recorded_halves begun awaits (begun_parity its_stands) commit.stage to goes its_recorded
+        halves_recorded to goes = search (recorded_halves, begun_parity, its_stands, its_recorded, arith)
 
         -- and as it ends or is cut short.
         pub whole_recorded : Recorded world past before.items runs.item runs.last runs.begun before.state.disk
