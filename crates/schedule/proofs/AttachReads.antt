@@ -76,7 +76,8 @@ module _ {script : Script} {actor : ℕ} {before after : Station} {clients news 
       let runs = looked after.state.disk takes.schedule.going takes.is takes.still_lawful unchanged was in
       runs_goes_on takes runs under
       (λ its its_is. rw (← same_attach its_is) (holds world past runs)) (search still_known)
-      (later_refl after.state.disk) (λ groups time row kept. kept) under_is client_is no_commit
+      (later_refl after.state.disk) (λ groups time row kept. kept) under_is client_is
+      (work_no_commit under_is no_commit)
       (λ makes. none_there next_early makes) (λ asked asked_is. tt)
       (subst (λ (s : CoreState). Stands (setting_now runs) runs.last runs.begun
       (map_of world.handed world.opening before.items) runs.contents (calls_under_way news) runs.commit s)

@@ -1,5 +1,5 @@
 -- What a copy is answered, as a round of it begins or as it is stopped.
-use Rattle.schedule.proofs.Words.{◌≡◌, ⊤, subst, ⊎_elim, ℕ, List, length, None, refl, arith, true, Disk, Expands, has_device, max_group, Answer, Entry, Item, IsAnswerOf, IsGroupBefore, Map, PutBytes, map_after_answer, World, WhyDropped, group_before_grown, IsSyncRefused, IsJobRefused, Core, IsRoundRefused, IsDeviceCause, IsRightNext, group_by}
+use Rattle.schedule.proofs.Words.{◌≡◌, ⊎_elim, ℕ, List, length, None, refl, arith, true, Disk, Expands, has_device, max_group, Answer, Entry, Item, IsAnswerOf, IsGroupBefore, Map, PutBytes, map_after_answer, World, WhyDropped, group_before_grown, IsSyncRefused, IsJobRefused, Core, IsRoundRefused, IsDeviceCause, IsRightNext, group_by}
 use Rattle.std.specs.Prelude.{◌≢◌}
 use Rattle.core_state.specs.declared.answer.Answer.TheVariants as answer
 use Rattle.core_state.specs.declared.answer.Kind.TheVariants as kind
@@ -7,7 +7,7 @@ use Rattle.core_state.specs.declared.item.Group.{Group as GroupItem}
 use Rattle.join_commit.specs.declared.join_run.WhyDropped.TheVariants as why
 use Rattle.schedule.proofs.Fitting.{TellsOut}
 use Rattle.schedule.proofs.Refusals.{sync_cause}
-use Rattle.schedule.proofs.RightNext.{IsStopped, copy_right, group_cut_right, same_out}
+use Rattle.schedule.proofs.RightNext.{IsStopped, copy_right, group_cut_right}
 use Rattle.schedule.proofs.Syncs.{refused_answers, refused_map, refused_right, refused_tells}
 
 -- Where the last group listed has the core's widths, and is the last one begun if no commit is under way, an entry with
@@ -47,49 +47,31 @@ paused_with core device expands world items item entry disk asked is latest from
     copy_right world items entry disk asked (λ damaged. cc) (rw is tt)
     (rw is (item.to, (item, latest, omega (arith, expands, from_is, to_is), refl)))
 
--- A job's refusal tells of no limit and of no group, and changes no block.
-abbrev IsJobAnswer : Answer → Type 0
-IsJobAnswer (answer.TooManyFailed out) = ⊤
-IsJobAnswer (answer.Completed width) = ⊤
-IsJobAnswer (answer.Paused device) = ⊤
-IsJobAnswer answer.NoMemory = ⊤
-IsJobAnswer other = ⊥
-
-quiet : (given : Answer) → IsJobAnswer given → (group_by given None ≡ None)
-    × ((handed : PutBytes) (map : Map) (entry : Entry) → map_after_answer handed map entry given ≡ map)
-quiet given job = grind arith
-
-job_ends : {core : Core} {devices : ℕ} {dropped : WhyDropped → Type 0} {given : Answer} → IsJobAnswer given
-    → IsAnswerOf kind.Copy given → TellsOut core given
-    → (((device : ℕ) → has_device core.pool.out device ≡ true → dropped (why.DeviceOut device))
-    → IsDeviceCause devices dropped given) → IsRightWith core given → AnswersCopy core devices dropped given
-job_ends {given = given} job of tells cause right = record {
-  answers = of;
-  tells = tells;
-  limit = λ reached told. absurd (subst IsJobAnswer told job);
-  cause = cause;
-  alone = (quiet given job).0;
-  no_full = λ full. subst IsJobAnswer full job;
-  no_block = (quiet given job).1;
-  right = right;
-}
-
 -- Want of memory may end any copy.
 pub no_memory_answers : (core : Core) {devices : ℕ} {dropped : WhyDropped → Type 0}
     → AnswersCopy core devices dropped answer.NoMemory
-no_memory_answers core = job_ends tt tt (λ listed told. cc) (λ known. tt) (stopped_with core tt)
+no_memory_answers core = grind (arith, stopped_with)
 
 -- So it is where a job is refused,
+job_right : (core : Core) (given : Answer) → IsJobRefused core given → IsRightWith core given
+job_right core (answer.TooManyFailed out) refused = stopped_with core tt
+job_right core (answer.Completed width) refused = search completed_with
+job_right core (answer.Paused device) refused = paused_with core device refused.1
+job_right core answer.NoMemory refused = stopped_with core tt
+job_right core other refused = absurd refused
+
 job_answers : (core : Core) {devices : ℕ} {dropped : WhyDropped → Type 0} (given : Answer) → IsJobRefused core given
     → AnswersCopy core devices dropped given
-job_answers core (answer.TooManyFailed out) refused =
-    job_ends tt tt (search (same_out, arith)) (λ known. tt) (stopped_with core tt)
-job_answers core (answer.Completed width) refused =
-    job_ends tt refl (λ listed told. cc) (λ known. tt) (search completed_with)
-job_answers core (answer.Paused device) refused =
-    job_ends tt refl (λ listed told. cc) (λ known. known device refused.2) (paused_with core device refused.1)
-job_answers core answer.NoMemory refused = no_memory_answers core
-job_answers core other refused = absurd refused
+job_answers core given refused = record {
+  answers = grind arith;
+  tells = grind arith;
+  limit = grind arith;
+  cause = grind arith;
+  alone = grind arith;
+  no_full = grind arith;
+  no_block = grind arith;
+  right = job_right core given refused;
+}
 
 -- and where a commit is.
 commit_answers : (core : Core) {devices : ℕ} {dropped : WhyDropped → Type 0} (given : Answer)
@@ -99,15 +81,11 @@ commit_answers core given refused = record {
   tells = refused_tells core given refused;
   limit = search arith;
   cause = search sync_cause;
-  alone = commit_alone given refused;
+  alone = grind arith;
   no_full = search arith;
   no_block = search refused_map;
   right = search (refused_right, arith);
 }
-  where
-    -- It comes with no group.
-    commit_alone : (given : Answer) → IsSyncRefused core given → group_by given None ≡ None
-    commit_alone given refused = grind arith
 
 pub round_answers : (core : Core) {devices : ℕ} {dropped : WhyDropped → Type 0} (given : Answer)
     → IsRoundRefused core given → AnswersCopy core devices dropped given

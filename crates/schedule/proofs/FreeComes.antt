@@ -1,6 +1,5 @@
 -- What a free comes to.
-use Rattle.schedule.proofs.Words.{◌≡◌, inr, ℕ, List, Some, None, refl, ap, slice_get, option_and_then, Disk, Answer, Entry, Map, PutBytes, map_of, map_after_answer, IsAnswerOf, IsRightFree, found_id, found_listed, map_after_free, HoldsMap, ScriptCall, Script, calls_of, Core, at_disk, pool_at, FreesBlock, Done, frees_calls, frees_stands, Client, Station, Frees, LeavesBegun, TakesTurn, calls_under_way, arith}
-use Rattle.core_state.specs.declared.answer.Answer.TheVariants as answer
+use Rattle.schedule.proofs.Words.{◌≡◌, ℕ, List, Some, None, ap, slice_get, option_and_then, Disk, Answer, Entry, Map, PutBytes, map_of, map_after_answer, IsAnswerOf, IsRightFree, found_id, found_listed, map_after_free, HoldsMap, ScriptCall, Script, calls_of, Core, at_disk, pool_at, FreesBlock, Done, frees_calls, frees_stands, Client, Station, Frees, LeavesBegun, TakesTurn, calls_under_way, arith}
 use Rattle.core_state.specs.declared.answer.Kind.TheVariants as kind
 use Rattle.schedule.proofs.Fitting.{no_device_cause, plain_no_limit}
 use Rattle.schedule.proofs.RightNext.{IsPlain, free_right}
@@ -18,17 +17,12 @@ record FreesSo (old new : Core) (id : ℕ) (given : Answer) : Type 0 where
       → map_after_answer handed map entry given ≡ map_after_free map id given
 
 frees_so : (old new : Core) (id : ℕ) (given : Answer) → FreesBlock old new id given → FreesSo old new id given
-frees_so old new id answer.Freed frees =
-    record { pool = holds_left frees.2.rest; answers = refl; plain = tt; leaves = λ handed map entry is. cc }
-frees_so old new id answer.Absent frees = record {
-  pool = holds_left frees.1.rest;
-  answers = inr (inr refl);
-  plain = tt;
-  leaves = λ handed map entry is. refl;
+frees_so old new id given frees = record {
+  pool = grind (arith, holds_left);
+  answers = grind arith;
+  plain = grind arith;
+  leaves = grind arith;
 }
-frees_so old new id (answer.TooManyFailed out) frees =
-    record { pool = holds_left frees.2; answers = tt; plain = tt; leaves = λ handed map entry is. refl }
-frees_so old new id other frees = absurd frees
 
 -- The answer is right of the map that the pool held.
 frees_right : (old new : Core) {disk : Disk} (map : Map) (id : ℕ) (given : Answer)

@@ -6,7 +6,7 @@ use Rattle.schedule.proofs.Going.{one_commit}
 use Rattle.schedule.proofs.Syncs.{its_commit, no_commit}
 use Rattle.schedule.proofs.Recording.{GoesOnSince, recorded_goes}
 use Rattle.schedule.proofs.Running.{group_free, with_content, with_other, with_own}
-use Rattle.schedule.proofs.Theirs.{none_some, run_of, OnlyIt, before_commit, each_going, idle_no_commit, no_one, commit_stays, the_one, work_no_commit}
+use Rattle.schedule.proofs.Theirs.{IsNoCommit, none_some, run_of, OnlyIt, before_commit, each_going, idle_no_commit, no_one, commit_stays, the_one, work_no_commit}
 
 -- Of an attach that makes no commit it is known on the devices alone.
 pub early_known : (setting now : Setting) (last next : Kept) (begun onward : List Kept) (disk : Disk) (run : AttachRun)
@@ -177,14 +177,14 @@ module _ {world : World} {script : Script} {past : Past} {index : ℕ} {start le
       → GoesOnSince (setting_now runs) runs.last (shown_of runs.begun runs.commit) before.disk after.disk
       → old.under_way ≡ Some under
       → client ≡ record { begun = old.begun; under_way = Some (record { at = under.at; work = does }) }
-      → (MakesCommit under.work → ⊥) → (MakesCommit does → ⊥)
+      → IsNoCommit old.under_way → (MakesCommit does → ⊥)
       → ((asked : ScriptCall) → slice_get (calls_of script index) (old.begun - 1) ≡ Some asked
       → HasContent world items asked under.at (runs.contents index) does)
       → Stands (setting_now runs) runs.last runs.begun map runs.contents (calls_under_way news) runs.commit after
       → Runs world script past after items news
-  goes_on under attached others later since old_is client_is was_no_commit no_commit has = has_under runs.reach
+  goes_on under attached others later since old_is client_is was_none no_commit has = has_under runs.reach
       runs.contents (recorded_goes runs.recorded later since) (commit_stays was changes runs.commit
-      (work_no_commit old_is was_no_commit) (work_no_commit (ap (λ (c : Client). c.under_way) client_is) no_commit)
+      was_none (work_no_commit (ap (λ (c : Client). c.under_way) client_is) no_commit)
       runs.theirs) client_is (inr (under, old_is, refl)) (search (group_free, no_commit)) has attached
       (λ other apart. refl) others
 

@@ -82,13 +82,10 @@ module _ {script : Script} {actor : ℕ} {before after : Station} {clients news 
 
   -- A turn that does nothing.
   pub comes_nowhere : after ≡ before → ItComes
-  comes_nowhere same = rw same (subst (Comes script actor before before clients) (same_list clients news at) (record {
-    come = came_nowhere refl;
-    schedule = takes.schedule;
-  }))
-    where
-      at : (index : ℕ) → slice_get clients index ≡ slice_get news index
-      at index = search (cases_eq, arith)
+  comes_nowhere same =
+      let at : (index : ℕ) → slice_get clients index ≡ slice_get news index = search (cases_eq, arith) in
+      rw same (subst (Comes script actor before before clients) (same_list clients news at)
+      (record { come = came_nowhere refl; schedule = takes.schedule }))
 
   -- A turn that lists these items.
   pub comes : {items : List Item} (more : List Item) → items ≡ before.items ++ more
@@ -108,7 +105,7 @@ module _ {script : Script} {actor : ℕ} {before after : Station} {clients news 
   }
 
   -- A turn that lists nothing.
-  pub comes_on : GoesOnFor script before.state after.state → after.items ≡ before.items
+  comes_on : GoesOnFor script before.state after.state → after.items ≡ before.items
       → answered after.client ≡ answered before.client → after.client.begun ≤ length (calls_of script actor)
       → ((under : UnderWay) → after.client.under_way ≡ Some under → 1 ≤ after.client.begun)
       → AreGoing script now news → RunsOn script before after clients news before.items → ItComes
@@ -323,8 +320,7 @@ module _ {script : Script} {actor : ℕ} {before after : Station} {clients news 
           let now = stands world past runs in
           runs_goes_on takes runs under
           (λ run is. absurd (subst IsPlainWork is next_plain)) (search beside_known) goes.later now.0 under_is client_is
-          (λ makes. plain_no_commit does plain (rw does_is at makes)) no_commit
-          (λ other other_is. rw (← some_is (sym is ∙ other_is)) (now.1 (its_content runs))) now.2)
+          was_none no_commit (λ other other_is. rw (← some_is (sym is ∙ other_is)) (now.1 (its_content runs))) now.2)
 
   -- It is answered.
   module _ (given : Answer) (ended : LeavesGoing actor call before after under (Done given)) where
