@@ -18,8 +18,7 @@ module _ {script : Script} {actor : ℕ} {before after : Station} {clients news 
     (makes : attach_commit run ≡ Some commit) (does_is : under.work ≡ work.Attach run)
     (under_is : before.client.under_way ≡ Some under)
     (is : slice_get (calls_of script actor) (before.client.begun - 1) ≡ Some call)
-    (goes : WorkGoesOn (work.Attach run) before.state after.state)
-    (stops : StopsAttach before.state after.state) where
+    (goes : WorkGoesOn (work.Attach run) before.state after.state) (stops : StopsAttach before.state after.state) where
   open before.state use {core as old}
   open after.state use {core as now}
 

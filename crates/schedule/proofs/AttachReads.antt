@@ -63,8 +63,8 @@ module _ {script : Script} {actor : ℕ} {before after : Station} {clients news 
   attach_looks next core unchanged next_early of holds further = comes_further from (work.Attach next)
       (attach_on from goes) further refl
       (going_goes takes.was takes.changes takes.schedule.going (rw (core, same) takes.schedule.going.are)
-      (same_keeps old core)
-      (work_no_commit under_is no_commit) next (ap (λ (c : Client). c.under_way) client_is) refl attaching (record {
+      (same_keeps old core) (work_no_commit under_is no_commit) next (ap (λ (c : Client). c.under_way) client_is) refl
+      attaching (record {
         hold = tt;
         call = call;
         there = cc;
@@ -74,11 +74,9 @@ module _ {script : Script} {actor : ℕ} {before after : Station} {clients news 
       }))
       (λ world past handed within listed was.
       let runs = looked after.state.disk takes.schedule.going takes.is takes.still_lawful unchanged was in
-      runs_goes_on takes runs under
-      (λ its its_is. rw (← same_attach its_is) (holds world past runs)) (search still_known)
-      (later_refl after.state.disk) (λ groups time row kept. kept) under_is client_is
-      (work_no_commit under_is no_commit)
-      (λ makes. none_there next_early makes) (λ asked asked_is. tt)
+      runs_goes_on takes runs under (λ its its_is. rw (← same_attach its_is) (holds world past runs))
+      (search still_known) (later_refl after.state.disk) (λ groups time row kept. kept) under_is client_is
+      (work_no_commit under_is no_commit) (λ makes. none_there next_early makes) (λ asked asked_is. tt)
       (subst (λ (s : CoreState). Stands (setting_now runs) runs.last runs.begun
       (map_of world.handed world.opening before.items) runs.contents (calls_under_way news) runs.commit s)
       (λ i. at_disk (sym core i) after.state.disk) (rw same runs.stands)))
@@ -110,8 +108,8 @@ module _ {script : Script} {actor : ℕ} {before after : Station} {clients news 
       (λ world past handed within with was.
       let runs = looked after.state.disk takes.schedule.going takes.is takes.still_lawful stops.unchanged was in
       let map : Map = map_of world.handed world.opening before.items in
-      runs_answer takes runs runs.commit runs.recorded refl idle refl
-      (right world past was) fits.of_kind with runs.theirs (work_no_commit under_is no_commit)
+      runs_answer takes runs runs.commit runs.recorded refl idle refl (right world past was) fits.of_kind with
+      runs.theirs (work_no_commit under_is no_commit)
       (rw (no_block world.handed map entry)
       (subst (λ (s : CoreState). Stands (setting_now runs) runs.last runs.begun map runs.contents (calls_under_way news)
       runs.commit s)

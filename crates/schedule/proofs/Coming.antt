@@ -107,8 +107,7 @@ cause_beside early late out now cause before after still is = grind arith
 
 -- Turns after turns.
 module _ (script : Script) (start middle now : Turns) (one two : List TurnTaken)
-    (first : LeadTo script start one middle)
-    (second : LeadTo script middle two now) where
+    (first : LeadTo script start one middle) (second : LeadTo script middle two now) where
   -- with whose banks items were listed
   split : (banks : ℕ → Disk) → AreListedWith banks start (one ++ two)
       → AreListedWith banks start one × AreListedWith banks middle two

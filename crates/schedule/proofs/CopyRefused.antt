@@ -52,7 +52,7 @@ pub no_memory_answers : (core : Core) {devices : ℕ} {dropped : WhyDropped → 
     → AnswersCopy core devices dropped answer.NoMemory
 no_memory_answers core = grind (arith, stopped_with)
 
--- So it is where a job is refused,
+-- Where a job is refused the answer is right,
 job_right : (core : Core) (given : Answer) → IsJobRefused core given → IsRightWith core given
 job_right core (answer.TooManyFailed out) refused = stopped_with core tt
 job_right core (answer.Completed width) refused = search completed_with
@@ -60,6 +60,7 @@ job_right core (answer.Paused device) refused = paused_with core device refused.
 job_right core answer.NoMemory refused = stopped_with core tt
 job_right core other refused = absurd refused
 
+-- and one to a copy in all else,
 job_answers : (core : Core) {devices : ℕ} {dropped : WhyDropped → Type 0} (given : Answer) → IsJobRefused core given
     → AnswersCopy core devices dropped given
 job_answers core given refused = record {
@@ -73,7 +74,7 @@ job_answers core given refused = record {
   right = job_right core given refused;
 }
 
--- and where a commit is.
+-- as where a commit is refused.
 commit_answers : (core : Core) {devices : ℕ} {dropped : WhyDropped → Type 0} (given : Answer)
     → IsSyncRefused core given → AnswersCopy core devices dropped given
 commit_answers core given refused = record {
@@ -87,6 +88,7 @@ commit_answers core given refused = record {
   right = search (refused_right, arith);
 }
 
+-- So it is of each round.
 pub round_answers : (core : Core) {devices : ℕ} {dropped : WhyDropped → Type 0} (given : Answer)
     → IsRoundRefused core given → AnswersCopy core devices dropped given
 round_answers core given = ⊎_elim

@@ -74,7 +74,7 @@ given_up_turn other is = absurd is
 abbrev pub IsWhole : PutRun → Type 0
 IsWhole run = (filled : Filled) × (run.filled ≡ Some filled) × (filled.write.next ≡ length filled.write.writes)
 
--- So it is whatever its last turn was.
+-- Its block is stored or it is given up, whatever its last turn was.
 pub put_ended : (before after : CoreState) (call : ScriptCall) (run : PutRun) (given : Answer)
     → (ends : EndsPutting before after call run given)
     → ((given ≡ answer.Stored) × StoresBlock before.core after.core ends.filled × IsWhole ends.filled)

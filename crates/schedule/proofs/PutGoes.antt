@@ -119,9 +119,8 @@ module _ {script : Script} {actor : ℕ} {before after : Station} {clients news 
     put_given_up given_up = ends_with
         (ended.0 ∙ unstored_listed now before.items under.at entry (made_by under.work) given given_up.unstored)
         (gives_up_rearranges old now filled given_up.gives_up) given_up.gives_up.ends
-        (unstored_plain given given_up.unstored)
-        (unstored_answers given given_up.unstored) given_up.tells given_up.other
-        (put_gives_up_calls given_up.gives_up among.gains among.are)
+        (unstored_plain given given_up.unstored) (unstored_answers given given_up.unstored) given_up.tells
+        given_up.other (put_gives_up_calls given_up.gives_up among.gains among.are)
         (λ world past handed runs stood.
         rw (unstored_map world.handed entry given given_up.unstored)
         (put_gives_up_stands given_up.gives_up among.gains among.are stood))

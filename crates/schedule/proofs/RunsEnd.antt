@@ -21,9 +21,8 @@ module _ {world : World} {script : Script} {past : Past} {index : ℕ} {start le
 
   -- A call is answered, and its entry listed: the client has nothing under way then, and this commit is under way.
   module _ (commit : Option CommitRun)
-      (so_far : Recorded world past items runs.item runs.last (shown_of runs.begun commit) before.disk)
-      {entry : Entry} (caller : entry.caller ≡ index) (ended : client.under_way ≡ None)
-      (disk : after.disk ≡ before.disk)
+      (so_far : Recorded world past items runs.item runs.last (shown_of runs.begun commit) before.disk) {entry : Entry}
+      (caller : entry.caller ≡ index) (ended : client.under_way ≡ None) (disk : after.disk ≡ before.disk)
       (right : IsRightNext world items entry after.disk) (answers : IsAnswerOf entry.kind entry.answer)
       (with : IsListedWith past.banks items (items ++ CallItem entry ∷ []) after.disk) where
     abbrev grown : List Item
@@ -80,12 +79,10 @@ module _ {world : World} {script : Script} {past : Past} {index : ℕ} {start le
         → IsKnown world script with_one group runs.reach next [] after.disk (runs.contents other) other its its_under
     others_left other its its_under apart is =
         let none : MakesCommit its_under.work → ⊥ = λ makes. apart (only other its its_under is makes) in (
-          client_grown (Group group ∷ [])
-              (λ was. group_free world with_one group [] its_under.at its_under.work none)
+          client_grown (Group group ∷ []) (λ was. group_free world with_one group [] its_under.at its_under.work none)
               (search group_apart) (runs.each other its its_under is),
-          λ run does. rw disk (early_known (setting_now runs)
-              (setting_now runs) runs.last next runs.begun [] before.disk
-              run (before_commit run (λ makes. none (subst MakesCommit (sym does) makes)))
+          λ run does. rw disk (early_known (setting_now runs) (setting_now runs) runs.last next runs.begun []
+              before.disk run (before_commit run (λ makes. none (subst MakesCommit (sym does) makes)))
               (runs.attaches other its its_under run is does)),
         )
 

@@ -130,9 +130,8 @@ module _ {world : World} {script : Script} {past : Past} {index : ℕ} {start le
       let was = runs.each other its under is in
       let none = (rw no_commit at runs.theirs) other its under is in (
         search group_free,
-        λ run does. early_known (setting_now runs) (record world.setting { reach = reach }) runs.last
-            runs.last runs.begun begun after.disk run
-            (before_commit run (λ makes. none (subst MakesCommit (sym does) makes)))
+        λ run does. early_known (setting_now runs) (record world.setting { reach = reach }) runs.last runs.last
+            runs.begun begun after.disk run (before_commit run (λ makes. none (subst MakesCommit (sym does) makes)))
             (rw disk (runs.attaches other its under run is does)),
       )
 
@@ -191,8 +190,8 @@ module _ {world : World} {script : Script} {past : Past} {index : ℕ} {start le
   -- A commit is under way by now, of this group: it is its client's work. What images can show is recorded.
   pub commit_runs : {number at : ℕ} {does : Work} {begun : List Kept} (reach : ℕ) (commit : CommitRun)
       → IsRecorded (shown_in begun commit.stage) after.disk → commit_in does ≡ Some commit
-      → client ≡ record { begun = number; under_way = Some (record { at = at; work = does }) }
-      → IsSince at → HasBegunBy world items runs.item begun at does
+      → client ≡ record { begun = number; under_way = Some (record { at = at; work = does }) } → IsSince at
+      → HasBegunBy world items runs.item begun at does
       → ((asked : ScriptCall) → HasContent world items asked at (runs.contents index) does)
       → IsAttached reach begun does → OthersKnown reach begun
       → Stands (record world.setting { reach = reach }) runs.last begun map runs.contents (calls_under_way news)
@@ -215,8 +214,8 @@ module _ {world : World} {script : Script} {past : Past} {index : ℕ} {start le
       → IsAttached reach (next ∷ []) does
       → Stands (record world.setting { reach = reach }) runs.last (next ∷ []) map runs.contents (calls_under_way news)
       (Some run) after → Runs world script past after items news
-  commit_begins reach run {next = next} none_begun no_commit does_is stage disk client_is group content
-      attached = commit_runs reach run (search (no_commit, arith)) does_is client_is (inl refl) group content attached
+  commit_begins reach run {next = next} none_begun no_commit does_is stage disk client_is group content attached =
+      commit_runs reach run (search (no_commit, arith)) does_is client_is (inl refl) group content attached
       (early_others reach (next ∷ []) disk no_commit)
 
   -- ---- first turns, which call no device

@@ -68,8 +68,7 @@ module _ {script : Script} {actor : ℕ} {before after : Station} {clients news 
 
 module _ {script : Script} {actor : ℕ} {before after : Station} {clients news : List Client} {call : ScriptCall}
     (takes : TakesTurn script actor before after clients news) (asked : call.kind ≡ kind.Sync) (no_id : call.id ≡ None)
-    (idle : before.client.under_way ≡ None)
-    (next : slice_get (calls_of script actor) before.client.begun ≡ Some call)
+    (idle : before.client.under_way ≡ None) (next : slice_get (calls_of script actor) before.client.begun ≡ Some call)
     (disk : after.state.disk ≡ before.state.disk) where
   open before.state use {core as old}
   open after.state use {core as now}

@@ -179,9 +179,8 @@ module _ {script : Script} {actor : ℕ} {before after : Station} {clients news 
           → OfRuns (λ world past. IsListedNow (calls_under_way clients) (first_entry call actor before given)) → ItComes
       comes_at_once listed fit full are stands =
           let rests : after.client.under_way ≡ None = cc in
-          comes_answered (length before.items) (cc)
-          (ap (slice_get (calls_of script actor)) (answered_idle idle) ∙ next) still listed.0 listed.1 fit full
-          (still_going rests are)
+          comes_answered (length before.items) (cc) (ap (slice_get (calls_of script actor)) (answered_idle idle) ∙ next)
+          still listed.0 listed.1 fit full (still_going rests are)
           (λ world past handed within with runs.
           let now = stands world past runs in
           search (runs_answer, idle_no_commit, same_calls))
@@ -223,13 +222,12 @@ module _ {script : Script} {actor : ℕ} {before after : Station} {clients news 
             (search (slice_get_within, arith))
             (going_goes takes.was takes.changes takes.schedule.going are (leaves_commit leaves) (idle_no_commit idle)
             (idle_no_attach idle) (the_one (λ its_under. IsWorkOf script now actor after.client its_under.work)
-            (ap (λ (c : Client). c.under_way) begins.1) (search
-            (one_less, no_commit, makes_commit, held_no_attach, arith))))
+            (ap (λ (c : Client). c.under_way) begins.1)
+            (search (one_less, no_commit, makes_commit, held_no_attach, arith))))
             (λ world past handed within listed runs.
             let now = stands world past runs in
-            runs_begins takes runs now.0 does
-            (λ run is. absurd (subst IsPlainWork is plain)) idle disk begins.1 no_commit
-            (search (some_is, arith)) now.2)
+            runs_begins takes runs now.0 does (λ run is. absurd (subst IsPlainWork is plain)) idle disk begins.1
+            no_commit (search (some_is, arith)) now.2)
 
 -- ---- later turns
 
@@ -318,8 +316,8 @@ module _ {script : Script} {actor : ℕ} {before after : Station} {clients news 
           (ap (λ (c : Client). c.under_way) client_is) (search (makes_commit, no_commit, arith))))
           (λ world past handed within listed runs.
           let now = stands world past runs in
-          runs_goes_on takes runs under
-          (λ run is. absurd (subst IsPlainWork is next_plain)) (search beside_known) goes.later now.0 under_is client_is
+          runs_goes_on takes runs under (λ run is. absurd (subst IsPlainWork is next_plain)) (search beside_known)
+          goes.later now.0 under_is client_is
           was_none no_commit (λ other other_is. rw (← some_is (sym is ∙ other_is)) (now.1 (its_content runs))) now.2)
 
   -- It is answered.
@@ -360,8 +358,8 @@ module _ {script : Script} {actor : ℕ} {before after : Station} {clients news 
         (was_no_attach plain) (no_one (λ its. IsWorkOf script after.state.core actor after.client its.work) idle_now))
         (λ world past handed within with runs.
         let now = stands world past handed runs in
-        runs_answer takes runs runs.commit runs.recorded refl idle_now disk now.0
-        fit.of_kind with runs.theirs (was_none plain) now.1)
+        runs_answer takes runs runs.commit runs.recorded refl idle_now disk now.0 fit.of_kind with runs.theirs
+        (was_none plain) now.1)
 
   -- It makes a commit.
   module _ {commit : CommitRun} (makes : commit_in does ≡ Some commit) where
