@@ -1,19 +1,22 @@
-use Rattle.schedule.proofs.Words.{◌≤◌, ◌+◌, ◌-◌, ℕ, Option, length, refl, sym, subst, arith, slice_get_read, Client, UsesRoom, taken_for, HasDeviceUnder, Turned, station_of}
+use Rattle.schedule.proofs.Words.{◌≡◌, ◌≤◌, ◌+◌, ◌-◌, ℕ, List, Some, Option, length, refl, sym, subst, arith, get_or, slice_get, slice_get_read, ScriptCall, Client, UsesRoom, taken_for, HasDeviceUnder, Turned, station_of}
 use Rattle.schedule.specs.Works.{commit_in}
 use Rattle.schedule.proofs.Rooms.{ended_uses, going_uses, listed_room, room_to_begin, room_to_end, room_to_go}
 use Rattle.schedule.proofs.Stations.{went_more, went_done}
 use Rattle.schedule.proofs.station.take_turn.Goals as goal
+
+-- The call under way is the last one that was begun.
+last_begun : (calls : List ScriptCall) (begun : ℕ) {call : ScriptCall} → 1 ≤ begun → begun ≤ length calls
+    → call ≡ get_or calls (begun - 1) call → slice_get calls (begun - 1) ≡ Some call
+last_begun calls begun {call} some few is = slice_get_read calls (length calls) (begun - 1) call refl (omega arith) is
 
 pub returns-in-None-clause-bank : goal.returns-in-None-clause-bank
 returns-in-None-clause-bank g c = c.begin_next.ensures.bank (g.B.Bank.disk c.args.bank.now) c.requires.bank
 
 pub returns-in-None-given-clause-turned : goal.returns-in-None-given-clause-turned
 returns-in-None-given-clause-turned g c =
-    let going = c.in-Some.is in
-    let begun : 1 ≤ c.args.client.now.begun = c.requires.begun c.in-Some.under_way going in
-    let few = c.requires.few in
-    went_more c.args.actor c.args.client.now going (slice_get_read c.args.calls.now (length c.args.calls.now)
-    (c.args.client.now.begun - 1) c.index-calls-number.result refl (omega (arith, begun, few)) c.index-calls-number.is)
+    let is = last_begun c.args.calls.now c.args.client.now.begun
+    (c.requires.begun c.in-Some.under_way c.in-Some.is) c.requires.few c.index-calls-number.is in
+    went_more c.args.actor c.args.client.now c.in-Some.is is
     c.go_further-given.ensures.goes_on c.reflow-widths.ensures.is c.go_further-given.ensures.items
     c.in-None-given.ensures.goes
     (c.begun_at-at.ensures (commit_in c.in-Some.under_way.work) c.makes_commit-makes.ensures) c.len.ensures
@@ -21,31 +24,22 @@ returns-in-None-given-clause-turned g c =
 
 pub returns-in-Some-given-clause-turned : goal.returns-in-Some-given-clause-turned
 returns-in-Some-given-clause-turned g c =
-    let going = c.in-Some.is in
-    let begun : 1 ≤ c.args.client.now.begun = c.requires.begun c.in-Some.under_way going in
-    let few = c.requires.few in
-    subst (λ (client : Client). Turned c.args.calls.now c.args.actor
-    (station_of c.args.core.now (g.B.Bank.disk c.args.bank.now) c.args.journal.now.items c.args.client.now)
-    (station_of c.go_further-given.new.core (g.B.Bank.disk c.go_further-given.new.bank) c.list_answer.new.journal.items
-    client)) (sym c.end_call.ensures) (went_done c.args.actor c.args.client.now going
-    (slice_get_read c.args.calls.now (length c.args.calls.now)
-    (c.args.client.now.begun - 1) c.index-calls-number.result refl (omega (arith, begun, few)) c.index-calls-number.is)
+    let is = last_begun c.args.calls.now c.args.client.now.begun
+    (c.requires.begun c.in-Some.under_way c.in-Some.is) c.requires.few c.index-calls-number.is in
+    rw c.end_call.ensures (went_done c.args.actor c.args.client.now c.in-Some.is is
     c.go_further-given.ensures.goes_on c.reflow-widths.ensures.is c.go_further-given.ensures.items
     c.in-Some-given.ensures.goes c.reflow-widths.ensures.value c.entry_for-entry.ensures
     c.list_answer.ensures.items c.group-made.ensures refl)
 
 pub go_further-given-requires-clause-may : goal.go_further-given-requires-clause-may
 go_further-given-requires-clause-may g c =
-    let going = c.in-Some.is in
-    let begun : 1 ≤ c.args.client.now.begun = c.requires.begun c.in-Some.under_way going in
-    let few = c.requires.few in
-    c.requires.may c.in-Some.under_way c.index-calls-number.result going
-    (slice_get_read c.args.calls.now (length c.args.calls.now)
-    (c.args.client.now.begun - 1) c.index-calls-number.result refl (omega (arith, begun, few)) c.index-calls-number.is)
+    let is = last_begun c.args.calls.now c.args.client.now.begun
+    (c.requires.begun c.in-Some.under_way c.in-Some.is) c.requires.few c.index-calls-number.is in
+    c.requires.may c.in-Some.under_way c.index-calls-number.result c.in-Some.is is
 
 pub go_further-given-requires-clause-there : goal.go_further-given-requires-clause-there
 go_further-given-requires-clause-there g c =
-    subst (HasDeviceUnder (g.B.Bank.disk c.args.bank.now)) c.in-Some.is c.requires.there
+    rw c.in-Some.is at c.requires.there
 
 pub begin_next-requires-clause-room : goal.begin_next-requires-clause-room
 begin_next-requires-clause-room g c = room_to_begin (length c.args.calls.now) c.args.journal.now.room c.args.client.now
@@ -54,8 +48,7 @@ begin_next-requires-clause-room g c = room_to_begin (length c.args.calls.now) c.
 pub list_made-requires : goal.list_made-requires
 list_made-requires g c =
     let going = c.in-Some.is in record {
-      room = subst (λ (made : Option ℕ). taken_for made ≤ c.go_further-given.new.journal.room) (sym c.made.ensures)
-          (room_to_go (length c.args.calls.now) c.args.journal.now.room c.go_further-given.new.journal.room
+      room = rw c.made.ensures (room_to_go (length c.args.calls.now) c.args.journal.now.room c.go_further-given.new.journal.room
           c.args.client.now c.in-Some.under_way going (c.requires.begun c.in-Some.under_way going)
           c.go_further-given.new.work c.requires.few c.requires.room c.in-None-given.ensures.room);
     }
@@ -63,8 +56,8 @@ list_made-requires g c =
 pub list_answer-requires : goal.list_answer-requires
 list_answer-requires g c =
     let going = c.in-Some.is in record {
-      room = subst (λ (n : ℕ). n + 1 ≤ c.go_further-given.new.journal.room) (sym (listed_room
-          c.index-calls-number.result c.in-Some.under_way.at c.entry_for-entry.ensures c.group-made.ensures))
+      room = rw (listed_room
+          c.index-calls-number.result c.in-Some.under_way.at c.entry_for-entry.ensures c.group-made.ensures)
           (room_to_end (length c.args.calls.now) c.args.journal.now.room c.go_further-given.new.journal.room
           c.args.client.now c.in-Some.under_way going (c.requires.begun c.in-Some.under_way going)
           c.in-Some-given.answer c.requires.few c.requires.room c.in-Some-given.ensures.room);
@@ -76,28 +69,22 @@ returns-in-None-given-clause-room g c =
     going_uses (length c.args.calls.now) c.args.journal.now.room c.go_further-given.new.journal.room c.args.client.now
     c.in-Some.under_way going (c.requires.begun c.in-Some.under_way going) c.list_made.new.journal.room
     c.begun_at-at.result c.go_further-given.new.work c.in-None-given.ensures.room
-    (subst (λ (made : Option ℕ). c.go_further-given.new.journal.room ≤ c.list_made.new.journal.room + taken_for made)
-    c.made.ensures c.list_made.ensures.room)
+    (rw c.made.ensures at c.list_made.ensures.room)
 
 pub returns-in-Some-given-clause-room : goal.returns-in-Some-given-clause-room
 returns-in-Some-given-clause-room g c =
     let going = c.in-Some.is in
-    subst (UsesRoom c.args.journal.now.room c.list_answer.new.journal.room c.args.client.now) (sym c.end_call.ensures)
-    (ended_uses (length c.args.calls.now) c.args.journal.now.room c.go_further-given.new.journal.room c.args.client.now
+    rw c.end_call.ensures (ended_uses (length c.args.calls.now) c.args.journal.now.room c.go_further-given.new.journal.room c.args.client.now
     c.in-Some.under_way going (c.requires.begun c.in-Some.under_way going) c.list_answer.new.journal.room
     c.in-Some-given.answer refl c.in-Some-given.ensures.room
-    (subst (λ (n : ℕ). c.go_further-given.new.journal.room ≤ c.list_answer.new.journal.room + (n + 1))
-    (listed_room c.index-calls-number.result c.in-Some.under_way.at
-    c.entry_for-entry.ensures c.group-made.ensures) c.list_answer.ensures.room))
+    (rw (listed_room c.index-calls-number.result c.in-Some.under_way.at
+    c.entry_for-entry.ensures c.group-made.ensures) at c.list_answer.ensures.room))
 
 pub go_further-given-requires-clause-ready : goal.go_further-given-requires-clause-ready
 go_further-given-requires-clause-ready g c =
-    let going = c.in-Some.is in
-    let begun : 1 ≤ c.args.client.now.begun = c.requires.begun c.in-Some.under_way going in
-    let few = c.requires.few in
-    c.of_call.ensures.ready c.args.calls.now c.index-calls-number.result c.requires.ready
-    (slice_get_read c.args.calls.now (length c.args.calls.now)
-    (c.args.client.now.begun - 1) c.index-calls-number.result refl (omega (arith, begun, few)) c.index-calls-number.is)
+    let is = last_begun c.args.calls.now c.args.client.now.begun
+    (c.requires.begun c.in-Some.under_way c.in-Some.is) c.requires.few c.index-calls-number.is in
+    c.of_call.ensures.ready c.args.calls.now c.index-calls-number.result c.requires.ready is
 
 pub returns-in-None-given-clause-there : goal.returns-in-None-given-clause-there
 returns-in-None-given-clause-there g c = c.in-None-given.ensures.there
