@@ -1,5 +1,4 @@
-use Rattle.schedule.proofs.Words.{◌≡◌, ◌<◌, ◌≤◌, ◌-◌, List, Some, length, refl, arith, slice_set, length-set, slice_get, calls_of, TakesTurn, owed, Turned, station_of}
-use Rattle.client_script.specs.declared.call.ScriptCall.{ScriptCall as CallOf}
+use Rattle.schedule.proofs.Words.{◌≡◌, ◌<◌, ◌-◌, Some, length, refl, arith, slice_set, length-set, slice_get, calls_of, TakesTurn, Turned, station_of}
 use Rattle.schedule.proofs.TurnTaken.{allowed_of, client_there, going_may, turn_few, turn_none, takes_turn, turn_ready, turn_taken}
 use Rattle.schedule.proofs.Rooms.{room_after, room_left, taken_few}
 use Rattle.schedule.proofs.replay.turn_of.Goals as goal

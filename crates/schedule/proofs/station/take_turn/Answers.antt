@@ -1,4 +1,4 @@
-use Rattle.schedule.proofs.Words.{◌≡◌, ◌≤◌, ◌+◌, ◌-◌, ℕ, List, Some, Option, length, refl, sym, subst, arith, get_or, slice_get, slice_get_read, ScriptCall, Client, UsesRoom, taken_for, HasDeviceUnder, Turned, station_of}
+use Rattle.schedule.proofs.Words.{◌≡◌, ◌≤◌, ◌-◌, ℕ, List, Some, length, refl, arith, get_or, slice_get, slice_get_read, ScriptCall}
 use Rattle.schedule.specs.Works.{commit_in}
 use Rattle.schedule.proofs.Rooms.{ended_uses, going_uses, listed_room, room_to_begin, room_to_end, room_to_go}
 use Rattle.schedule.proofs.Stations.{went_more, went_done}

@@ -1,7 +1,4 @@
-use Rattle.schedule.proofs.Words.{◌≡◌, ◌-◌, ◌∙◌, List, arith, sym, subst, slice_get, true≢false, slice_get_within, calls_of, IsAskedBy}
-use Rattle.std.specs.Prelude.{Some}
-use Rattle.client_script.specs.declared.call.ScriptCall.{ScriptCall as CallOf}
-use Rattle.schedule.specs.declared.client.Client.{Client as ClientOf}
+use Rattle.schedule.proofs.Words.{◌-◌, ◌∙◌, arith, sym, true≢false, slice_get_within}
 use Rattle.schedule.proofs.Theirs.{some_is}
 use Rattle.schedule.proofs.TurnTaken.{client_there, going_may}
 use Rattle.schedule.proofs.progress.Progress.ahead.Goals as goal
@@ -15,17 +12,14 @@ ahead-requires-clause-may c =
         there = client_there c.args.self.now.clients.items c.from.ensures
             c.in-Some.ensures.item.3.0 c.in-Some.ensures.value;
         under_way = going;
-      }) (subst (λ (calls : List CallOf). slice_get calls (client.begun - 1) ≡ Some call) c.calls.ensures is),
+      }) (rw c.calls.ensures at is),
     )
 
 pub returns-in-Some-clause-asked : goal.returns-in-Some-clause-asked
 returns-in-Some-clause-asked c = λ client is.
     let found = client_there c.args.self.now.clients.items c.from.ensures
     c.in-Some.ensures.item.3.0 c.in-Some.ensures.value in
-    subst (λ (other : ClientOf). IsAskedBy (calls_of c.args.script.now c.args.actor) other c.ahead.result)
-    (some_is (sym found ∙ is))
-    (subst (λ (calls : List CallOf). IsAskedBy calls c.in-Some.client.now c.ahead.result) c.calls.ensures
-    c.ahead.ensures.asked)
+    rw (← some_is (sym found ∙ is)) (rw c.calls.ensures at c.ahead.ensures.asked)
 
 pub returns-in-None-clause-asked : goal.returns-in-None-clause-asked
 returns-in-None-clause-asked c = λ client is.
