@@ -1,28 +1,21 @@
-use Rattle.schedule.proofs.Words.{List, [], length, refl, sym, subst, Item, CallsAreRight, asked_by, at_disk, turns_of, InOrder, InRest, Replay, replay_in, turns_in, CarriesOut, HasPlayed, HasRunOutOfTurns, NoMemory, blank_clients}
+use Rattle.schedule.proofs.Words.{[], length, refl, subst, InOrder, InRest, Replay, replay_in, turns_in, HasPlayed, HasRunOutOfTurns, blank_clients}
 use Rattle.schedule.proofs.AtRest.{complete_at_rest, first_is, ready_at_rest, schedule_at_rest}
 use Rattle.schedule.proofs.Coming.{came_nowhere}
 use Rattle.schedule.proofs.replay.carry_out.Goals as goal
 use Rattle.schedule.proofs.replay.carry_out.Goals.{in-Ok-take_turns, in-Err}
 
 pub returns-in_default-clause-taken : goal.returns-in_default-clause-taken
-returns-in_default-clause-taken g c =
-    let script = c.args.script.now in
-    let state = at_disk c.args.core (g.B.Bank.disk c.args.bank) in
-    let start = turns_of state c.args.journal.items (blank_clients script.clients) in
-    subst (λ (items : List Item). CarriesOut script c.args.listed.now start NoMemory 0 state items)
-    (sym c.begin.ensures.same) (record {
-      passed = [];
-      clients = blank_clients script.clients;
-      cursor = InOrder c.args.listed.now;
-      come = came_nowhere refl;
-      ends = (refl, refl);
-    })
+returns-in_default-clause-taken g c = rw c.begin.ensures.same (record {
+  passed = [];
+  clients = blank_clients c.args.script.now.clients;
+  cursor = InOrder c.args.listed.now;
+  come = came_nowhere refl;
+  ends = (refl, refl);
+})
 
 pub returns-in_default-clause-calls : goal.returns-in_default-clause-calls
-returns-in_default-clause-calls g c =
-    subst (λ (items : List Item). CallsAreRight (asked_by c.args.script.now) items) (sym c.begin.ensures.same)
-    (schedule_at_rest c.args.script.now c.args.script.now.clients c.requires.rest c.requires.bank
-    c.requires.none).answered.right
+returns-in_default-clause-calls g c = rw c.begin.ensures.same (schedule_at_rest c.args.script.now
+    c.args.script.now.clients c.requires.rest c.requires.bank c.requires.none).answered.right
 
 pub take_turns-requires-clause-ready : goal.take_turns-requires-clause-ready
 take_turns-requires-clause-ready g c = ready_at_rest c.in-Ok.progress c.requires.rest c.requires.bank c.requires.none
