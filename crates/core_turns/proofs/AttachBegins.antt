@@ -1,5 +1,5 @@
 -- The commit of an attach begins: its group may be made with the new device, which is free.
-use Rattle.core_turns.proofs.Words.{◌≡◌, ℕ, ◌<◌, ◌≤◌, List, [], ◌∷◌, All, Some, None, sym, ◌∙◌, ap, subst, arith, All-cons, All-nil, Disk, Lawful, Reflow, Uber, HasReadRing, RingRead, Map, read_devices, Kept, Setting, ReadsNoUber, IsWidenable, shape_of, reach_less, Laid, JoinRun, GuestSoFar, free_is_blank, Chooses, MayRecord, KeepsOrEnds, Checked, Joins, Core, CoreState, IsCore, at_disk, BeginsJoining, HasNewDevice, HoldsAttach, IsAttachRunOf, HoldingCall, AreCallsOf, Stands}
+use Rattle.core_turns.proofs.Words.{◌≡◌, ℕ, ◌<◌, ◌≤◌, List, [], ◌∷◌, All, Some, None, sym, ◌∙◌, ap, subst, arith, All-cons, All-nil, Disk, Lawful, Uber, HasReadRing, RingRead, Map, read_devices, Kept, Setting, ReadsNoUber, IsWidenable, shape_of, reach_less, Laid, JoinRun, GuestSoFar, free_is_blank, Chooses, MayRecord, KeepsOrEnds, Checked, Joins, Core, CoreState, IsCore, at_disk, BeginsJoining, HasNewDevice, HoldsAttach, IsAttachRunOf, HoldingCall, AreCallsOf, Stands}
 use Rattle.core_turns.proofs.AttachTurns.{rest_records}
 use Rattle.core_turns.proofs.Commits.{few_out, rests}
 use Rattle.core_turns.proofs.CommitStands.{commit_begins_stands}
@@ -14,18 +14,7 @@ reaching_to setting reach = record setting { reach = reach }
 pub narrow_stands : {setting : Setting} {last : Kept} {map : Map} {contents : ℕ → List ℕ} {calls : List HoldingCall}
     {state : CoreState} → Stands setting last [] map contents calls None state
     → Stands (reaching_to setting state.core.pool.uber.reflow.to) last [] map contents calls None state
-narrow_stands {setting} {last} {state = state} stands = record {
-  groups = search (reach_less, width, most, width_is, alone);
-  alike = stands.alike;
-  kept = stands.kept;
-  spared = stands.spared;
-  excepted = stands.excepted;
-  shape = stands.shape;
-  tells = stands.tells;
-  bank = stands.bank;
-  holds = stands.holds;
-  each = stands.each;
-}
+narrow_stands {setting} {last} {state = state} stands = search (reach_less, most, width_is, alone)
   where
     width : ℕ
     width = state.core.pool.uber.reflow.to
@@ -78,31 +67,19 @@ module _ {setting : Setting} {last : Kept} {begun : List Kept} {map : Map} {cont
       records = Chooses before.core.holds joins.begins.choice
 
   widenable : IsWidenable narrow last begins.0
-  widenable = record {
-    rest = search kept;
-    width = ap (λ (r : Reflow). r.to) kept;
-    first_width = search arith;
-    follows =
-        omega (
-          arith,
-          begins.2,
-          ap (λ (c : Core). c.begun) joins.begins.rest,
-          rests before.core is joins.begins.none,
-          ap
-              (λ (u : Uber). u.group) alone.alike,
-        );
-    there = rw alone.shape read_there;
-  }
-    where
-      read_there : width < read_devices (shape_of before.disk)
-      read_there = search arith
+  widenable =
+      let read_there : width < read_devices (shape_of before.disk) = search arith in
+      let number = rests before.core is joins.begins.none in
+      let begun = ap (λ (c : Core). c.begun) joins.begins.rest in
+      let group = ap (λ (u : Uber). u.group) alone.alike in
+      search (kept, begins.2, alone.shape, arith)
 
   -- The device shows no uberblock, and nothing is laid on it yet.
   free : ReadsNoUber before.disk width
   free = search (free_is_blank, arith)
 
   guest : GuestSoFar before.disk begins.0 width (Laid 0)
-  guest = search (free, width, arith)
+  guest = search (free_is_blank, width, arith)
 
   -- What stands goes on standing with the commit, in a pool that reaches as far as its last group does.
   pub attach_joins_stands : (next : Kept) × (next.map ≡ map) × (next.uber.group ≡ after.core.begun)

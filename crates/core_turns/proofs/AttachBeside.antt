@@ -20,10 +20,7 @@ pub attach_kept : (old new : Core) (run : AttachRun) → new.pool.uber ≡ old.p
     → new.committing ≡ old.committing → new.attaching ≡ old.attaching
     → ((commit : CommitRun) → IsCommitOf old commit → IsCommitOf new commit)
     → IsAttachRunOf old run → IsAttachRunOf new run
-attach_kept old new (Reads ring) uber reach committing attaching commits was = search (new_device_still, arith)
-attach_kept old new (Checked ring) uber reach committing attaching commits was = search (new_device_still, arith)
-attach_kept old new (Joins join) uber reach committing attaching commits was = search (may_reach_still, arith)
-attach_kept old new (Signs run because) uber reach committing attaching commits was = search arith
+attach_kept old new run uber reach committing attaching commits was = grind (arith, new_device_still, may_reach_still)
 
 -- as where it is left.
 pub attach_still : (old new : Core) (run : AttachRun) → LeavesCommit old new → new.attaching ≡ old.attaching
@@ -40,28 +37,20 @@ IsBeforeCommit other = ⊥
 pub attach_at_begin : (old new : Core) (run : AttachRun) → IsBeforeCommit run
     → new.pool.uber.reflow ≡ old.pool.uber.reflow → new.reach ≡ old.reach → new.attaching ≡ old.attaching
     → IsAttachRunOf old run → IsAttachRunOf new run
-attach_at_begin old new (Reads ring) before reflow reach attaching was = search (new_device_still, reflow)
-attach_at_begin old new (Checked ring) before reflow reach attaching was = search (new_device_still, reflow)
-attach_at_begin old new (Joins join) before reflow reach attaching was = absurd before
-attach_at_begin old new (Signs commit because) before reflow reach attaching was = absurd before
+attach_at_begin old new run before reflow reach attaching was = grind (arith, new_device_still)
 
 -- So another's group may be answered beside the reads of an attach.
 pub attach_at_answer : (before after : CoreState) (commit : CommitRun) (number : ℕ) (run : AttachRun)
     → IsBeforeCommit run → IsCore before.core → IsCommitOf before.core commit → AnswersGroup before commit after number
     → IsAttachRunOf before.core run → IsAttachRunOf after.core run
+attach_at_answer before after commit number (Checked ring) not_yet is of answers was =
+    let reflow : after.core.pool.uber.reflow ≡ before.core.pool.uber.reflow = search
+    (ready_keeps, rest_records, arith) in
+    search (attach_at_begin, arith)
 attach_at_answer before after commit number run not_yet is of answers was =
-    search (attach_at_begin, reflow, device_of, arith)
-  where
-    device_of : (run : AttachRun) → IsBeforeCommit run → IsAttachRunOf before.core run
-        → (device : ℕ) × IsJoiningDevice before.core device
-    device_of (Reads ring) not_yet was = (ring.device, was)
-    device_of (Checked ring) not_yet was = (ring.device, was.0)
-    device_of (Joins join) not_yet was = absurd not_yet
-    device_of (Signs commit because) not_yet was = absurd not_yet
-
-    reflow : (device : ℕ) × IsJoiningDevice before.core device
-        → after.core.pool.uber.reflow ≡ before.core.pool.uber.reflow
-    reflow new = search (ready_keeps, rest_records, arith)
+    let reflow : after.core.pool.uber.reflow ≡ before.core.pool.uber.reflow = search
+    (ready_keeps, rest_records, arith) in
+    search (attach_at_begin, arith)
 
 -- ---- what is known of it
 

@@ -1,6 +1,5 @@
 -- An attach's commit from its first turn to its last one: what stands stands, with the device where it joins.
-use Rattle.core_turns.proofs.Words.{◌≡◌, inl, inr, ℕ, ◌+◌, List, [], ◌∷◌, Option, Some, None, sym, subst, Continues, Lawful, IsWithin, Answer, Map, Kept, Setting, Knows, Point, point_of, IsRowOf, KeepsSince, since_more, Stage, Lays, CommitRun, shown_at, MayWiden, widened_kept, widened_run, committing_knows, goes_on, WhyDropped, JoinRun, JoinSteps, IsJoining, joining_goes_on, Joins, Core, CoreState, HasBankOf, IsCore, at_disk, EndsAttach, GoOutAndReach, HoldsAttach, MayReachOn, OnlyGoOut, StepsJoin, IsCommitOf, HoldingCall, AreCallsOf, Stands, shown_in, shown_of}
-use Rattle.core_commit.specs.declared.commit_run.Stage.TheVariants.{Signs as Signing}
+use Rattle.core_turns.proofs.Words.{inl, inr, ℕ, ◌+◌, List, [], ◌∷◌, Option, Some, None, Continues, Lawful, IsWithin, Answer, Map, Kept, Setting, Point, point_of, IsRowOf, KeepsSince, since_more, CommitRun, MayWiden, widened_kept, widened_run, committing_knows, goes_on, WhyDropped, JoinRun, JoinSteps, IsJoining, joining_goes_on, Joins, Core, CoreState, HasBankOf, IsCore, at_disk, EndsAttach, GoOutAndReach, HoldsAttach, MayReachOn, OnlyGoOut, StepsJoin, IsCommitOf, HoldingCall, AreCallsOf, Stands, shown_of}
 use Rattle.join_commit.specs.declared.join_run.JoinStep.TheVariants as step
 use Rattle.core_turns.proofs.AttachStands.{attaching_stands, is_joining}
 use Rattle.core_turns.proofs.AttachTurns.{join_drops_commit, join_joins_commit, reaching_on}
@@ -41,23 +40,9 @@ module _ {setting : Setting} {last : Kept} {begun : List Kept} {map : Map} {cont
   join_goes_since next groups time did within lawful row =
       let goes : IsJoining setting last stands.groups.next next new =
       search (joining_goes_on, its) in
-      since_more setting groups time last [] before.disk after.disk (row_alone next.run.stage goes.lays row)
-      (join_continues join next old new did.steps) (search (knows_alone, committing_knows))
-    where
-      row_alone : (stage : Stage) → stage ≡ Lays → IsRowOf groups last (shown_in begun stage) → IsRowOf groups last []
-      row_alone Lays lays row = row
-      row_alone Signing lays row = cc
-        where
-          signing : Signing ≡ Lays → ⊥
-          signing same = cc
-
-      knows_alone : (stage : Stage) → stage ≡ Lays → Knows setting last (shown_at stands.groups.next stage) after.disk
-          → Knows setting last [] after.disk
-      knows_alone Lays lays knows = knows
-      knows_alone Signing lays knows = absurd (signing lays)
-        where
-          signing : Signing ≡ Lays → ⊥
-          signing same = cc
+      since_more setting groups time last [] before.disk after.disk (rw goes.lays at row)
+      (join_continues join next old new did.steps) (rw goes.lays at
+      (committing_knows setting last stands.groups.next next.run new goes.commits))
 
   -- ---- the decision
 
@@ -67,7 +52,7 @@ module _ {setting : Setting} {last : Kept} {begun : List Kept} {map : Map} {cont
       → OnlyGoOut before after → IsWithin before.core.pool.out setting.failed
       → Stands setting last begun map contents calls (Some run) after
   join_drops_stands run because did core within = commit_moves_stands is within stands after run did.steps.result
-      did.steps.steps core (subst (λ (c : Core). IsCommitOf c run) (sym core) (search join_drops_commit))
+      did.steps.steps core (rw core (search join_drops_commit))
 
   pub join_drops_since : (run : CommitRun) (because : WhyDropped)
       → StepsJoin before join after (step.Dropped run because)
@@ -75,7 +60,7 @@ module _ {setting : Setting} {last : Kept} {begun : List Kept} {map : Map} {cont
       → IsRowOf groups last (shown_of begun (Some run))
       → KeepsSince setting groups time before.disk → KeepsSince setting groups time after.disk
   join_drops_since run because did core within = commit_moves_since is within stands after run did.steps.result
-      did.steps.steps core (subst (λ (c : Core). IsCommitOf c run) (sym core) (search join_drops_commit))
+      did.steps.steps core (rw core (search join_drops_commit))
 
   -- It joins: the group has one device more, and the pool reaches to it.
   module _ (run : CommitRun) (did : StepsJoin before join after (step.Joined run)) (core : GoOutAndReach before after)
@@ -87,11 +72,7 @@ module _ {setting : Setting} {last : Kept} {begun : List Kept} {map : Map} {cont
     reached = at_disk (reaching_on before.core) before.disk
 
     widens : MayWiden setting last stands.groups.next old
-    widens = record {
-      whole = did.steps.whole;
-      pool = its.pool;
-      joins = rw did.steps.synced at its.guest;
-    }
+    widens = search (rw did.steps.synced at its.guest)
 
     stood : Stands wider last (widened_kept stands.groups.next ∷ []) map contents calls
         (Some (widened_run join.run)) reached
@@ -101,7 +82,7 @@ module _ {setting : Setting} {last : Kept} {begun : List Kept} {map : Map} {cont
     its_core = search joined_core
 
     of : IsCommitOf after.core run
-    of = subst (λ (c : Core). IsCommitOf c run) (sym core) (search join_joins_commit)
+    of = rw core (search join_joins_commit)
 
     pub join_joins_stands : IsWithin before.core.pool.out setting.failed
         → Stands wider last (widened_kept stands.groups.next ∷ []) map contents calls (Some run) after
@@ -124,17 +105,10 @@ pub attach_ends_stands : {setting : Setting} {last next : Kept} {map : Map} {con
     → IsWithin before.core.pool.out setting.failed
     → Stands setting last (next ∷ []) map contents calls (Some run) before
     → Stands setting next [] map contents calls None after
-attach_ends_stands {setting} {last} {next} {map} {contents} {calls} {before} {after} {run} is now of ends are within
-    stands =
-    rw (← same) at (attaching_stands ends.answered.core None ends.answered.disk was
-    (commit_ends_stands is of ends.answers are within stands))
+attach_ends_stands is now of ends are within stands =
+    rw (← ends.core, ← ends.disk) at (attaching_stands ends.answered.core None ends.answered.disk
+    (by ends.answered.core (rw ends.core at now)) (commit_ends_stands is of ends.answers are within stands))
   where
-    same : after ≡ at_disk (record ends.answered.core { attaching = None }) ends.answered.disk
-    same i = record { core = ends.core i; disk = ends.disk i }
-
     -- Who attaches is nothing to a core.
-    was : IsCore ends.answered.core
-    was = by ends.answered.core (subst IsCore ends.core now)
-      where
-        by : (core : Core) → IsCore (record core { attaching = None }) → IsCore core
-        by core is = search
+    by : (core : Core) → IsCore (record core { attaching = None }) → IsCore core
+    by core is = search

@@ -1,9 +1,9 @@
 -- What stands between two turns stands over each turn of an attach, and so does what is known of the attach.
-use Rattle.core_turns.proofs.Words.{◌≡◌, inr, ℕ, ◌%◌, ◌<◌, ◌≤◌, List, [], ◌∷◌, Option, Some, None, refl, sym, subst, arith, Contains, true≢false, cases_lt, Disk, Lawful, Unchanged, Reflow, IsWithin, Layout, IsRequiredPlace, Map, Kept, Setting, Point, point_of, Nowhere, OnlyFailedGoOut, CommitRun, JoinStep, JoinRun, IsJoining, joining_goes_on, join_gone, join_spares, Joins, Core, CoreState, IsCore, at_disk, HoldsAttach, MayReachOn, OnlyGoOut, StepsJoin, StopsAttach, IsCommitOf, HoldingCall, Putting, Reading, Copying, AreCallsOf, Stands}
+use Rattle.core_turns.proofs.Words.{◌≡◌, inr, ℕ, ◌<◌, ◌≤◌, List, Option, Some, refl, arith, Contains, true≢false, cases_lt, Disk, Lawful, Unchanged, Reflow, IsWithin, Layout, IsRequiredPlace, Map, Kept, Setting, Point, point_of, Nowhere, OnlyFailedGoOut, CommitRun, JoinStep, JoinRun, IsJoining, joining_goes_on, join_gone, join_spares, Joins, Core, CoreState, IsCore, at_disk, HoldsAttach, MayReachOn, OnlyGoOut, StepsJoin, StopsAttach, IsCommitOf, HoldingCall, Copying, AreCallsOf, Stands, PutsSpare, LiesInPool, CommitStands}
 use Rattle.join_commit.specs.declared.join_run.JoinStep.TheVariants as step
 use Rattle.core_turns.proofs.AttachTurns.{join_goes_commit}
 use Rattle.core_turns.proofs.Frames.{IsCallOff, IsOff, Leaves, OnlyOut, call_off_nowhere, calls_beside, leaves_read, off_nowhere}
-use Rattle.core_turns.proofs.StandFrames.{groups_read, stands_frame}
+use Rattle.core_turns.proofs.StandFrames.{groups_read, one_group, stands_frame}
 use Rattle.core_turns.proofs.GetStands.{stands_held}
 use Rattle.core_turns.proofs.Holds.{keeps_same}
 
@@ -13,7 +13,7 @@ use Rattle.core_turns.proofs.Holds.{keeps_same}
 pub attaching_calls : (core : Core) (by : Option ℕ) (calls : List HoldingCall) → AreCallsOf core calls
     → AreCallsOf (record core { attaching = by }) calls
 attaching_calls core by calls are =
-    calls_beside core core.holds core.begun core.reach core.committing by calls (omega arith) (λ hold has. has) are
+    calls_beside core core.holds core.begun core.reach core.committing by calls (omega arith) (search) are
 
 module _ {setting : Setting} {last : Kept} {begun : List Kept} {map : Map} {contents : ℕ → List ℕ}
     {calls : List HoldingCall} {commit : Option CommitRun} where
@@ -21,34 +21,26 @@ module _ {setting : Setting} {last : Kept} {begun : List Kept} {map : Map} {cont
       → Stands setting last begun map contents calls commit (at_disk core disk)
       → Stands setting last begun map contents calls commit (at_disk (record core { attaching = by }) disk)
   attaching_stands core by disk is stands = stands_held core (record core { attaching = by }) disk is refl
-      (search keeps_same) (λ put has. has)
-      (λ call listed. inr (stands.each call listed)) stands
+      (search keeps_same) (λ put has. has) (λ call listed. inr (stands.each call listed)) stands
 
   -- A device was read.
   pub look_stands : (before after : CoreState) → IsCore before.core → after.core ≡ before.core
       → Unchanged before.disk after.disk → Lawful after.disk
       → Stands setting last begun map contents calls commit before
       → Stands setting last begun map contents calls commit after
-  look_stands before after is core unchanged lawful stands = stands_frame Nowhere before after
-      (search (leaves_read, only, still)) (search call_off_nowhere) (search off_nowhere) only unchanged.goes_on.later
-      (search (groups_read, only, outs)) stands
-    where
-      only : OnlyOut before.core after.core
-      only = search arith
-
-      still : IsWithin before.core.pool.out after.core.pool.out
-      still device has = search
-
-      outs : OnlyFailedGoOut (point_of before.core.pool.out before.disk) (point_of after.core.pool.out after.disk)
-      outs = search (still, true≢false, arith)
+  look_stands before after is core unchanged lawful stands =
+      let still : IsWithin before.core.pool.out after.core.pool.out = λ device has. rw core has in
+      let only : OnlyOut before.core after.core = search arith in
+      let outs : OnlyFailedGoOut (point_of before.core.pool.out before.disk) (point_of after.core.pool.out after.disk) =
+      search (true≢false, arith) in
+      stands_frame Nowhere before after (search leaves_read) (search call_off_nowhere) (search off_nowhere) only
+      unchanged.goes_on.later (search groups_read) stands
 
   -- An attach ends before its commit.
   pub stops_stands : (before after : CoreState) → IsCore before.core → StopsAttach before after → Lawful after.disk
       → Stands setting last begun map contents calls commit before
       → Stands setting last begun map contents calls commit after
-  stops_stands before after is stops lawful stands =
-      rw stops.core (attaching_stands before.core None after.disk is
-      (look_stands before (at_disk before.core after.disk) is refl stops.unchanged lawful stands))
+  stops_stands before after is stops lawful stands = rw stops.core (search (attaching_stands, look_stands, arith))
 
 -- ---- the first half of its commit
 
@@ -59,10 +51,7 @@ IsBeyond width device device_sector = width ≤ device
 -- No place that is required is on one of these.
 required_below : (reflow : Reflow) (done row_end sector device device_sector : ℕ) → 0 < reflow.from
     → reflow.from ≤ reflow.to → IsRequiredPlace reflow done row_end sector device device_sector → device < reflow.to
-required_below reflow done row_end sector device device_sector some wide required = search (remainder, arith)
-  where
-    remainder : (number width : ℕ) → 0 < width → number % width < width
-    remainder number width some = omega arith
+required_below reflow done row_end sector device device_sector some wide required = grind arith
 
 off_beyond : (reflow : Reflow) (done : ℕ) (layout : Layout) → 0 < reflow.from → reflow.from ≤ reflow.to
     → IsOff (IsBeyond reflow.to) reflow done layout
@@ -81,10 +70,7 @@ module _ {setting : Setting} {last : Kept} {begun : List Kept} {map : Map} {cont
 
   -- The group that is made, as what stands and as what is known of the attach tell of it.
   same_next : stands.groups.next ≡ holds.0
-  same_next = same (cc)
-    where
-      same : stands.groups.next ∷ [] ≡ holds.0 ∷ [] → stands.groups.next ≡ holds.0
-      same is = cc
+  same_next = one_group (cc)
 
   pub is_joining : IsJoining setting last stands.groups.next join old
   is_joining = search same_next
@@ -95,9 +81,8 @@ module _ {setting : Setting} {last : Kept} {begun : List Kept} {map : Map} {cont
   -- No job is under way in a pool at rest.
   call_off : (call : HoldingCall) → Contains calls call → IsCallOff
       (IsBeyond reflow.to) reflow before.core.pool.done call
-  call_off (Putting run) listed = search (off_beyond, some_width, arith)
-  call_off (Reading run) listed = search (off_beyond, some_width, arith)
   call_off (Copying run) listed = search arith
+  call_off call listed = search (off_beyond, some_width, arith)
 
   module _ (after : CoreState) where
     abbrev new : Point
@@ -106,10 +91,7 @@ module _ {setting : Setting} {last : Kept} {begun : List Kept} {map : Map} {cont
     -- The pool's devices that are in use read what they read, outside of rings and index areas.
     join_leaves : (result : JoinStep) → StepsJoin before join after result → OnlyGoOut before after
         → Leaves (IsBeyond reflow.to) before after
-    join_leaves result did core = search (join_spares, join_gone, below, arith)
-      where
-        below : (device : ℕ) → (reflow.to ≤ device → ⊥) → device < join.run.uber.reflow.to
-        below device away = search (cases_lt, arith)
+    join_leaves result did core = search (join_spares, join_gone, cases_lt, arith)
 
     -- It goes on.
     pub join_goes_stands : (next : JoinRun) → StepsJoin before join after (step.GoesOn next) → OnlyGoOut before after
@@ -118,18 +100,13 @@ module _ {setting : Setting} {last : Kept} {begun : List Kept} {map : Map} {cont
         × HoldsAttach setting last begun after.disk (Joins next)
     join_goes_stands next did core within lawful =
         let was = stands.groups in
-        let goes : IsJoining setting last was.next next new =
-        search (joining_goes_on, is_joining) in (
+        let goes : IsJoining setting last was.next next new = search (joining_goes_on, is_joining) in
+        let of : IsCommitOf after.core next.run = rw core (search join_goes_commit) in
+        let spared : PutsSpare after calls was.next = λ put has. rw core (was.spared put has) in
+        let lies : LiesInPool after.core was.next = rw core (search was.lies) in
+        let groups : CommitStands setting last begun calls next.run after = search (goes.commits, arith) in (
           stands_frame (IsBeyond reflow.to) before after (join_leaves (step.GoesOn next) did core) call_off
               (search (off_beyond, some_width, arith))
-              core (join_spares join old (step.GoesOn next) new did.steps).later (record {
-                next = was.next;
-                begun_is = was.begun_is;
-                of = subst (λ (c : Core). IsCommitOf c next.run) (sym core) (search join_goes_commit);
-                come = goes.commits;
-                lies = rw core (record { born = was.lies.born; inside = was.lies.inside });
-                kept = search arith;
-                spared = λ put has. rw core (was.spared put has);
-              }) stands,
+              core (join_spares join old (step.GoesOn next) new did.steps).later groups stands,
           search,
         )

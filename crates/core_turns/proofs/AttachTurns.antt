@@ -1,5 +1,5 @@
 -- Attaches, turn by turn: that a core stays one, and what each turn comes to.
-use Rattle.core_turns.proofs.Words.{◌≡◌, inl, inr, ℕ, ◌+◌, ◌^◌, ◌<◌, Option, Some, None, sym, subst, arith, true≢false, Disk, Lawful, TouchesOnly, synced_touches, touches_widen, wrote_touches, Reflow, IsWithin, none_above, Chooses, MayRecord, Widens, choice_still, Point, point_of, OnlyFailedGoOut, Called, CommitRun, IsOnInUse, widened_run, steps_same, JoinStep, WhyDropped, JoinRun, JoinSteps, join_gone, join_spares, Joins, Signs, Core, IsCore, IsCommitOf, HasNewDevice, IsAttachRunOf, MayReachOn}
+use Rattle.core_turns.proofs.Words.{◌≡◌, inl, inr, ℕ, ◌+◌, ◌^◌, ◌<◌, Option, Some, None, sym, subst, arith, true≢false, Disk, Lawful, TouchesOnly, synced_touches, touches_widen, wrote_touches, Reflow, IsWithin, none_above, MayRecord, choice_still, Point, point_of, OnlyFailedGoOut, Called, CommitRun, IsOnInUse, widened_run, steps_same, JoinStep, WhyDropped, JoinRun, JoinSteps, join_gone, join_spares, Joins, Signs, Core, IsCore, IsCommitOf, HasNewDevice, IsAttachRunOf, MayReachOn}
 use Rattle.join_commit.specs.declared.join_run.JoinStep.TheVariants as step
 use Rattle.core_turns.proofs.CommitGoes.{commit_stays, step_touches}
 use Rattle.core_turns.proofs.Cores.{core_out}
@@ -13,8 +13,7 @@ attaching_commit core by of = search
 -- A commit of a pool at rest that no device has joined records the reflow as it is.
 pub rest_records : (core : Core) (chosen : Reflow) → IsCore core → MayReachOn core → core.reach ≡ chosen.to
     → MayRecord core.pool.uber.reflow core.pool.done chosen → chosen ≡ core.pool.uber.reflow
-rest_records core chosen is may reach (Chooses holds choice) = search (choice_still, arith)
-rest_records core chosen is may reach (Widens wider) = search arith
+rest_records core chosen is may reach choice = grind (arith, choice_still)
 
 -- ---- a step of the first half, and the decision
 
@@ -36,6 +35,9 @@ module _ (core : Core) (join : JoinRun) (out : ℕ) (old new : Disk) (is : IsCor
 
   join_still : (result : JoinStep) → JoinSteps join before result after → IsWithin core.pool.out out
   join_still result did = (join_gone join before result after did).stay
+
+  same_run : (next : JoinRun) → out ≡ core.pool.out → next.run ≡ join.run → IsCommitOf (with_out core out) next.run
+  same_run next out_is run_is = rw (out_is, run_is) of
 
   -- The first half goes on,
   pub join_goes_commit : (next : JoinRun) → JoinSteps join before (step.GoesOn next) after
@@ -95,13 +97,12 @@ module _ (core : Core) (join : JoinRun) (out : ℕ) (old new : Disk) (is : IsCor
       wider (IsOnInUse core.reach core.pool.out) (search arith)
       (step_touches core join.run next.run out old new Called is lawful of pool.called)
   join_touches (step.GoesOn next) lawful (inr (inl laid)) = search (wrote_touches, guest_in)
-  join_touches (step.GoesOn next) lawful (inr (inr synced)) = synced_touches Region guest_in lawful synced.synced
+  join_touches (step.GoesOn next) lawful (inr (inr synced)) = search (synced_touches, guest_in)
   join_touches (step.Joined run) lawful did =
       step_touches (reaching_on core) (widened_run join.run) run out old new did.result
       (search joined_core) lawful (search joined_commit) did.steps
   join_touches (step.Dropped run because) lawful did =
-      wider (IsOnInUse core.reach core.pool.out) (λ d x here. (let low = here.0 in omega (arith, low), here.1))
-      (search (step_touches, arith))
+      wider (IsOnInUse core.reach core.pool.out) (search arith) (search (step_touches, arith))
 
   -- ---- the attach goes on
 

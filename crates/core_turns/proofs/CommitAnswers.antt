@@ -1,6 +1,5 @@
 -- Commits, turn by turn: the group is answered, and what that makes of the core.
-use Rattle.core_turns.proofs.Words.{if◌then◌else◌, Contains, ◌≡◌, Bool, true, false, ℕ, ◌≤◌, List, None, Some, sym, ◌∙◌, subst, arith, Hold, HasSectors, exclusive_count, State, Valid, Moved, Reflow, sectors_of, Uber, IsChoiceIn, MayRecord, Chooses, Widens, front_behind, front_in, IsFrontOf, IsFrontIn, Blocks, CommitRun, answered_by, blocks_behind, IsPool, answered_pool, answered_step, may_grow_now, MayGrow, Core, IsCore, alone_below, jobs_begun, AnswersUber, DropsHold, IsHeldAlone, IsCommitOf, hold_for}
-use Rattle.reflow_mark.specs.declared.reflow.State.TheVariants.{None as Unmoved}
+use Rattle.core_turns.proofs.Words.{Contains, ◌≡◌, ℕ, ◌≤◌, List, None, Some, arith, Hold, HasSectors, exclusive_count, Reflow, sectors_of, Uber, MayRecord, front_behind, IsFrontOf, Blocks, CommitRun, answered_by, blocks_behind, IsPool, answered_pool, answered_step, may_grow_now, MayGrow, Core, IsCore, alone_below, jobs_begun, AnswersUber, DropsHold, IsHeldAlone, IsCommitOf, hold_for}
 use Rattle.core_turns.proofs.Cores.{core_with}
 use Rattle.core_turns.proofs.Holds.{alone_ends, below_lower, others_end}
 use Rattle.core_turns.proofs.Commits.{core_follows}
@@ -13,27 +12,7 @@ begun_pool core run is of = search arith
 -- The front behind an answer is no higher than it was.
 front_no_higher : (reflow : Reflow) (done : ℕ) (chosen : Reflow) → IsFrontOf reflow done → MayRecord reflow done chosen
     → front_behind reflow done chosen ≤ done
-front_no_higher reflow done chosen front (Chooses holds choice) = search (by, arith)
-  where
-    by : (from to rows mark done : ℕ) (holds : List Hold) (state : State) (chosen : Reflow)
-        → IsFrontIn state (record { from = from; to = to; rows = rows; mark = mark; state = state }) done
-        → IsChoiceIn state (record { from = from; to = to; rows = rows; mark = mark; state = state }) done holds chosen
-        → front_in state chosen.state done chosen.mark ≤ done
-    by from to rows mark done holds Unmoved chosen front choice = search arith
-    by from to rows mark done holds Valid chosen front choice = search arith
-    by from to rows mark done holds Moved chosen front choice = search (either, arith)
-      where
-        either : (one other : Reflow) (b : Bool) → front_in Moved one.state done one.mark ≤ done
-            → front_in Moved other.state done other.mark ≤ done
-            → (let r : Reflow = if b then one else other in front_in Moved r.state done r.mark ≤ done)
-        either one other true low high = low
-        either one other false low high = high
-front_no_higher reflow done chosen front (Widens wider) = search (same, arith)
-  where
-    same : (state : State) → front_in state state done reflow.mark ≤ done
-    same Unmoved = omega arith
-    same Valid = omega arith
-    same Moved = omega arith
+front_no_higher reflow done chosen front may = grind arith
 
 pub answered_core : (core : Core) (run : CommitRun) (holds : List Hold) → IsCore core → IsCommitOf core run
     → alone_below core.pool.done holds ≡ 0 → exclusive_count holds ≡ jobs_begun core.copying
@@ -41,34 +20,18 @@ pub answered_core : (core : Core) (run : CommitRun) (holds : List Hold) → IsCo
 answered_core core run holds is of none jobs =
     let on = core_follows core run.uber.reflow is of.next.choice in
     let pool = begun_pool core run is of in
-    record {
-      is = search (answered_pool, arith);
-      reach = omega arith;
-      rests = λ rests. of.reach;
-      below = is.below;
-      begun = (omega (arith, of.number));
-      few = is.few;
-      step = search answered_step;
-      shared = λ rests. none_behind;
-      copies = search (none_behind, arith);
-    }
-  where
-    none_behind : alone_below (front_behind core.pool.uber.reflow core.pool.done run.uber.reflow) holds ≡ 0
-    none_behind =
-        let low = front_no_higher core.pool.uber.reflow core.pool.done run.uber.reflow is.is.front of.next.choice in
-        omega (
-          arith,
-          below_lower (front_behind core.pool.uber.reflow core.pool.done run.uber.reflow) core.pool.done holds low,
-          none,
-        )
+    let low = front_no_higher core.pool.uber.reflow core.pool.done run.uber.reflow is.is.front of.next.choice in
+    let fewer = below_lower (front_behind core.pool.uber.reflow core.pool.done run.uber.reflow) core.pool.done holds low
+    in
+    let none_behind : alone_below (front_behind core.pool.uber.reflow core.pool.done run.uber.reflow) holds ≡ 0 =
+    omega arith in
+    search (answered_pool, answered_step, of.reach, arith)
 
 -- What a commit held was its actor's.
 pub held_by_actor : (core : Core) (run : CommitRun) (actor : ℕ) → IsCommitOf core run → core.committing ≡ Some actor
     → IsHeldAlone core.pool.done core.holds (hold_for core.pool.uber.reflow run.uber.reflow actor)
-held_by_actor core run actor of is = rw (← same (sym of.under_way ∙ is)) of.holds
-  where
-    same : {one other : ℕ} → Some one ≡ Some other → one ≡ other
-    same is = cc
+held_by_actor core run actor of is =
+    let same : of.actor ≡ actor = cc (of.under_way, is) in rw same at of.holds
 
 -- It is among the holds where it has sectors.
 pub held_where : (core : Core) (run : CommitRun) (actor : ℕ) → IsCommitOf core run → core.committing ≡ Some actor
@@ -90,17 +53,13 @@ module _ (core : Core) (run : CommitRun) (uber : Uber) (before chosen : Reflow) 
     its_drops = search arith
 
     now_is : now ≡ record core { pool = answered_by uber core.pool; holds = holds; committing = None }
-    now_is i = core_with uber (blocks_are i) core.pool.out
-        ((done_is ∙ (λ j. front_behind (before_is j) core.pool.done (chosen_is j))) i) holds core.begun None core.copying
-        core.attaching core.reach
+    now_is = cc
 
     pub answers_uber : AnswersUber core now uber
     answers_uber = search (its_drops, now_is)
 
     pub answers_core : IsCore now
-    answers_core = subst IsCore (sym now_is)
-        (subst (λ (u : Uber). IsCore (record core { pool = answered_by u core.pool; holds = holds; committing = None }))
-        uber_is (search (answered_core, alone_ends, held, its_drops, others_end)))
+    answers_core = rw (now_is, ← uber_is) (search (answered_core, alone_ends, held, its_drops, others_end))
       where
         held : IsHeldAlone core.pool.done core.holds (hold_for core.pool.uber.reflow uber.reflow actor)
         held = search (held_by_actor, arith)

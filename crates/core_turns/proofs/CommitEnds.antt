@@ -1,12 +1,13 @@
 -- The end of a commit beside the calls that are under way: its group is the last answered one, and each call goes on at
 -- the places at which it began.
-use Rattle.core_turns.proofs.Words.{Contains, ◌≡◌, ℕ, ◌+◌, ◌≤◌, List, [], ◌∷◌, None, Option, Some, refl, sym, subst, arith, Disk, Hold, Shared, Reflow, Layout, IndexEntry, IsWithin, Map, layout_of, Kept, Setting, Knows, Point, point_of, range_of_commit, chooses, FollowsOn, IsOutside, front_behind, held_outside, NoneFree, spot_of, IsColumnOf, got_of, Ended, CommitRun, HasEnded, IsCommitting, committing_done, committing_steps, GoesOnIn, MovesMark, choice_moves, answered_by, IsPool, answered_block, answered_in_pool, answered_kept, answered_layout, answered_map, answered_range, answered_spares, answered_under, CopyRun, GetRun, PutRun, Core, IsCore, CoreState, at_disk, HoldsGet, IsGetOf, AsksAlike, HoldsPut, IsPutOf, AnswersGroup, DropsHold, IsCommitOf, hold_for, CopiesCells, IsJobOf, HoldingCall, Putting, Reading, Copying, AreCallsOf, HoldsCall, IsCallOfCore, LiesInPool, PutsSpare, Stands}
+use Rattle.core_turns.proofs.Words.{Contains, ◌≡◌, ℕ, ◌+◌, ◌≤◌, List, [], ◌∷◌, None, Option, Some, ap, IsRightBlock, refl, arith, Disk, Hold, Shared, Reflow, Layout, IndexEntry, IsWithin, Map, layout_of, Kept, Setting, Knows, Point, point_of, range_of_commit, chooses, FollowsOn, IsOutside, front_behind, held_outside, NoneFree, spot_of, IsColumnOf, Ended, CommitRun, HasEnded, IsCommitting, committing_done, committing_steps, GoesOnIn, MovesMark, choice_moves, answered_by, IsPool, answered_block, answered_in_pool, answered_kept, answered_layout, answered_map, answered_range, answered_spares, answered_under, CopyRun, GetRun, PutRun, Core, IsCore, CoreState, at_disk, HoldsGet, IsGetOf, AsksAlike, HoldsPut, IsPutOf, AnswersGroup, DropsHold, IsCommitOf, hold_for, CopiesCells, IsJobOf, HoldingCall, Putting, Reading, Copying, AreCallsOf, HoldsCall, IsCallOfCore, LiesInPool, PutsSpare, Stands}
 use Rattle.core_turns.proofs.JobBeside.{cells_behind, goes_behind, job_holds_else}
 use Rattle.core_turns.proofs.Commits.{core_follows, core_rows}
 use Rattle.core_turns.proofs.CommitGoes.{commit_stays}
 use Rattle.core_turns.proofs.CommitAnswers.{begun_pool}
 use Rattle.core_turns.proofs.GetTurns.{get_shared}
-use Rattle.core_turns.proofs.Holds.{others_stay, shared_stay}
+use Rattle.core_turns.proofs.StandFrames.{one_group}
+use Rattle.core_turns.proofs.Holds.{others_stay}
 use Rattle.core_turns.proofs.Moved.{put_holds_moves, put_moves}
 use Rattle.core_turns.proofs.PutStands.{put_shared}
 use Rattle.core_turns.proofs.Rows.{IsBlockOutside, block_alike, spot_stays}
@@ -45,14 +46,12 @@ module _ (core : Core) (run : CommitRun) (is : IsCore core) (of : IsCommitOf cor
 
   get_outside : (get : GetRun) → IsGetOf core get
       → IsBlockOutside (range_of_commit reflow chosen).0 (range_of_commit reflow chosen).1 get.read.layout
-  get_outside get its =
-      subst (IsBlockOutside (range_of_commit reflow chosen).0 (range_of_commit reflow chosen).1) (sym its.layout_is)
-      (rw its.hold_is at (outside get.hold its.holds (get_shared core get its)))
+  get_outside get its = rw its.layout_is (rw its.hold_is at (outside get.hold its.holds (get_shared core get its)))
 
   -- so a put's block is asked for where it was.
   put_alike : (put : PutRun) → IsPutOf core put
       → AsksAlike put.range.layout reflow core.pool.done chosen behind
-  put_alike put its = block_alike reflow core.pool.done chosen put.range.layout on.rows its.pool (put_outside put its)
+  put_alike put its = search (block_alike, put_outside, on.rows)
 
   -- A job goes on: at most the mark has moved.
   job_moves : (job : CopyRun) → GoesOnIn reflow core.pool.done job.job → MovesMark reflow core.pool.done chosen
@@ -69,7 +68,7 @@ module _ (core : Core) (run : CommitRun) (is : IsCore core) (of : IsCommitOf cor
     answered = record core { pool = answered_by run.uber core.pool; holds = holds; committing = None }
 
     still_held : (hold : Hold) → hold.kind ≡ Shared → Contains core.holds hold → Contains holds hold
-    still_held hold = search (shared_stay, drops)
+    still_held hold shared = others_stay core.holds holds (hold_for reflow chosen of.actor) hold drops (λ same. cc)
 
     -- ---- the calls
 
@@ -99,16 +98,10 @@ module _ (core : Core) (run : CommitRun) (is : IsCore core) (of : IsCommitOf cor
     }
 
     call_answered : (call : HoldingCall) → IsCallOfCore core call → IsCallOfCore answered call
-    call_answered (Putting put) its = put_answered put its
-    call_answered (Reading get) its = (its.0, get_answered get its.1)
-    call_answered (Copying job) its = job_answered job its
+    call_answered call its = grind (arith, put_answered, get_answered, job_answered)
 
     pub answered_calls : (calls : List HoldingCall) → AreCallsOf core calls → AreCallsOf answered calls
-    answered_calls calls are = record {
-      each = search (call_answered, arith);
-      under = search (answered_under, pool, on);
-      beside = are.beside;
-    }
+    answered_calls calls are = search (call_answered, answered_under, pool, on, are.each)
 
     -- ---- what they hold
 
@@ -122,24 +115,14 @@ module _ (core : Core) (run : CommitRun) (is : IsCore core) (of : IsCommitOf cor
         → spot_of layout chosen row column ≡ spot_of layout reflow row column
         → IsColumnOf layout content reflow core.pool.out row column given
         → IsColumnOf layout content chosen core.pool.out row column given
-    column_stays layout content row column None same lost = cc
-    column_stays layout content row column (Some got) same is_column = is_column
+    column_stays layout content row column given same is_column = grind arith
 
     get_holds : (disk : Disk) (content : List ℕ) (get : GetRun) → IsGetOf core get
         → HoldsGet content (at_disk core disk) get → HoldsGet content (at_disk answered disk) get
-    get_holds disk content get its held = record {
-      right = search (answered_block, pool, on);
-      len_is = held.len_is;
-      are_bytes = held.are_bytes;
-      digest_is = held.digest_is;
-      so_far = record {
-        got = λ row column there passed. column_stays get.read.layout content row column
-            (got_of get.read.read row column)
-            (search (spot_stays, get_outside)) (held.so_far.got row column there passed);
-        missing = held.so_far.missing;
-      };
-      solved = search arith;
-    }
+    get_holds disk content get its held =
+        let right : IsRightBlock get.read.layout content chosen behind disk.reads core.pool.out = search
+        (answered_block, pool, on) in
+        search (column_stays, spot_stays, get_outside, held.so_far.got, arith)
 
     job_holds : (disk : Disk) (job : CopyRun) → CopiesCells reflow core.pool.done job.job (point_of core.pool.out disk)
         → CopiesCells chosen behind job.job (point_of core.pool.out disk)
@@ -149,9 +132,9 @@ module _ (core : Core) (run : CommitRun) (is : IsCore core) (of : IsCommitOf cor
 
     call_holds : (disk : Disk) (content : List ℕ) (call : HoldingCall) → IsCallOfCore core call
         → HoldsCall (at_disk core disk) content call → HoldsCall (at_disk answered disk) content call
-    call_holds disk content (Putting put) its = put_holds disk content put its
-    call_holds disk content (Reading get) its = get_holds disk content get its.1
-    call_holds disk content (Copying job) its = job_holds disk job
+    call_holds disk content (Putting put) its = search put_holds
+    call_holds disk content (Reading get) its = search get_holds
+    call_holds disk content (Copying job) its = search job_holds
 
     -- ---- all that stands
 
@@ -168,30 +151,20 @@ module _ (core : Core) (run : CommitRun) (is : IsCore core) (of : IsCommitOf cor
         → AreCallsOf core calls → {commit : Option CommitRun}
         → Stands setting last (next ∷ []) map contents calls commit (at_disk core disk)
         → Stands setting next [] map contents calls None (at_disk answered disk)
-    ended_stands setting last next map contents calls disk knows alike lies kept spared are stands = record {
-      groups = search;
-      alike = alike;
-      kept = search (answered_kept, pool, on, born_by_now, arith);
-      spared = search (answered_spares, pool, on, born_by_now);
-      excepted = stands.excepted;
-      shape = stands.shape;
-      tells = stands.tells;
-      bank = search rows;
-      holds = search (answered_map, pool, on);
-      each = search (call_holds, arith);
-    }
-      where
-        rows : chosen.rows ≡ reflow.rows
-        rows = core_rows core chosen is of.next.choice
+    ended_stands setting last next map contents calls disk knows alike lies kept spared are stands =
+        let rows = core_rows core chosen is of.next.choice in
+        let none_free : NoneFree answered.pool.blocks answered.pool.uber.group next.entries =
+        search (answered_kept, pool, on, born_by_now, arith) in
+        search (answered_spares, answered_map, pool, on, born_by_now, rows, call_holds, are.each, stands.each)
 
 -- A core of which no call was made leaves what a step that ends a commit begins with.
 ended_of : (before after : CoreState) (run ended : CommitRun)
     → HasEnded run (point_of before.core.pool.out before.disk) ended (point_of after.core.pool.out after.disk)
     → IsCommitOf before.core run → IsCommitOf before.core ended
 ended_of before after run ended did of =
-    let same : after.core.pool.out ≡ before.core.pool.out = cc in
-    rw same at (commit_stays before.core run ended after.core.pool.out before.disk after.disk Ended of did
-    (subst (IsWithin before.core.pool.out) (sym same) (λ device out. out)))
+    let out : after.core.pool.out ≡ before.core.pool.out = cc in
+    rw out at (commit_stays before.core run ended after.core.pool.out before.disk after.disk Ended of did
+    (search (out, arith)))
 
 module _ {before after : CoreState} {run : CommitRun} {group : ℕ} (is : IsCore before.core)
     (of : IsCommitOf before.core run)
@@ -205,14 +178,12 @@ module _ {before after : CoreState} {run : CommitRun} {group : ℕ} (is : IsCore
   -- It is its actor's hold that has ended.
   drops : DropsHold before.core.holds after.core.holds (hold_for before.core.pool.uber.reflow ended.uber.reflow
       of_ended.actor)
-  drops = search (same_actor, arith)
-    where
-      same_actor : {one other : ℕ} → Some one ≡ Some other → one ≡ other
-      same_actor same = cc
+  drops =
+      let same : answers.answers.actor ≡ of_ended.actor = cc (answers.answers.under_way, of_ended.under_way) in
+      rw same at answers.answers.holds
 
   pub commit_ends_calls : (calls : List HoldingCall) → AreCallsOf before.core calls → AreCallsOf after.core calls
-  commit_ends_calls calls are = rw answers.answers.rest (answered_calls before.core ended is of_ended after.core.holds
-      drops calls are)
+  commit_ends_calls calls are = rw answers.answers.rest (search (answered_calls, of_ended, drops))
 
   -- A commit ends: its group is the last one.
   pub commit_ends_stands : {setting : Setting} {last next : Kept} {map : Map} {contents : ℕ → List ℕ}
@@ -223,14 +194,11 @@ module _ {before after : CoreState} {run : CommitRun} {group : ℕ} (is : IsCore
       let was = stands.groups in
       let old = point_of before.core.pool.out before.disk in
       let new = point_of after.core.pool.out after.disk in
-      let same : next ≡ was.next = cc in
-      let come : IsCommitting setting last next run old =
-      search arith in
-      subst (λ (core : Core). Stands setting next [] map contents calls None (at_disk core after.disk))
-      (sym answers.answers.rest) (subst (λ (p : Point). Stands setting next [] map contents calls None
-      (at_disk (answered before.core ended is of_ended after.core.holds drops) p.disk)) (sym answers.ends.same)
-      (ended_stands before.core ended is of_ended after.core.holds drops setting last next map contents calls
-      before.disk (subst (λ (p : Point). Knows setting next [] p.disk) answers.ends.same
-      (committing_done setting last next run ended old new within answers.ends come))
-      (committing_steps setting last next Ended run ended old new within answers.ends come).alike (search arith)
-      (search arith) (rw same was.spared) are stands))
+      let same : next ≡ was.next = one_group was.begun_is in
+      let come : IsCommitting setting last next run old = search (same, arith) in
+      let went = committing_steps setting last next Ended run ended old new within answers.ends come in
+      let disk : after.disk ≡ before.disk = ap (λ (p : Point). p.disk) answers.ends.same in
+      rw (answers.answers.rest, disk) (ended_stands before.core ended is of_ended after.core.holds drops setting last
+      next map contents calls
+      before.disk (rw disk at (committing_done setting last next run ended old new within answers.ends come))
+      went.alike (search arith) (search arith) (rw same was.spared) are stands)

@@ -1,9 +1,9 @@
 -- A commit beside the calls that are under way: how it begins, goes on, and is cut short.
-use Rattle.core_turns.proofs.Words.{Contains, ◌≡◌, ℕ, ◌+◌, List, [], ◌∷◌, Some, None, refl, sym, subst, arith, Disk, Lawful, Hold, Reflow, IndexEntry, IsIndex, IsTable, IsWithin, Map, Kept, Setting, Point, point_of, IsRowOf, KeepsSince, Nowhere, since_more, MayRecord, Chooses, FollowsOn, KeepsOrEnds, IsListed, put_run, SparesAll, blocks_kept, among_listed, CommitStep, Called, Ended, CommitRun, CommitSteps, IsCommitting, shown_by, committing_begins, committing_steps, committing_cut, committing_knows, goes_on, steps_went, HoldsGroup, uber_for, may_commit, listed_in_pool, IsReady, PutRun, More, Core, IsCore, CoreState, as_begun, at_disk, pool_at, HasTooManyOut, BeginsCommit, BeginsCommitSo, IsCommitOf, StepsCommit, commit_of, HoldingCall, Putting, actor_of, Stands, AreCallsOf, shown_of, choice_widths}
+use Rattle.core_turns.proofs.Words.{Contains, ◌≡◌, ℕ, ◌+◌, List, [], ◌∷◌, Some, None, refl, sym, subst, arith, Disk, Lawful, Reflow, IndexEntry, IsIndex, IsTable, IsWithin, Map, Kept, Setting, Point, point_of, IsRowOf, KeepsSince, Nowhere, since_more, MayRecord, Chooses, KeepsOrEnds, IsListed, put_run, SparesAll, blocks_kept, among_listed, CommitStep, Called, Ended, CommitRun, CommitSteps, IsCommitting, shown_by, committing_begins, committing_steps, committing_cut, committing_knows, goes_on, steps_went, uber_for, may_commit, listed_in_pool, IsReady, PutRun, More, Core, IsCore, CoreState, as_begun, at_disk, pool_at, HasTooManyOut, BeginsCommit, IsCommitOf, StepsCommit, commit_of, HoldingCall, Putting, Stands, AreCallsOf, CommitStands, shown_of, choice_widths}
 use Rattle.core_turns.proofs.Calls.{range_listed}
 use Rattle.core_turns.proofs.Cores.{bank_within}
 use Rattle.core_turns.proofs.Commits.{begins_ready, begun_commit, core_follows, few_out, rests, rests_pool}
-use Rattle.core_turns.proofs.Frames.{OnlyOut, call_off_nowhere, off_nowhere, leaves_spared, call_stays, calls_beside, calls_stay}
+use Rattle.core_turns.proofs.Frames.{OnlyOut, call_off_nowhere, off_nowhere, leaves_spared, calls_hold_on, calls_beside, calls_stay}
 use Rattle.core_turns.proofs.StandFrames.{stands_frame}
 use Rattle.core_turns.proofs.Holds.{taken_has}
 use Rattle.core_turns.proofs.WritesBeside.{shown_one}
@@ -17,83 +17,11 @@ spare_table core calls run are index has entry listed =
 
 -- ---- a commit begins
 
--- the core once a commit is begun
-abbrev begun_by : Core → List Hold → ℕ → Core
-begun_by core holds actor = record core { holds = holds; begun = core.begun + 1; committing = Some actor }
-
 pub commit_begins_calls : (old new : Core) (calls : List HoldingCall) (actor : ℕ) (run : CommitRun)
     → BeginsCommit old new actor (More run) → AreCallsOf old calls → AreCallsOf new calls
-commit_begins_calls old new calls actor run begins are = subst (λ (core : Core). AreCallsOf core calls)
-    (sym begins.rest)
+commit_begins_calls old new calls actor run begins are = rw begins.rest
     (calls_beside old new.holds (old.begun + 1) old.reach (Some actor) old.attaching calls (omega arith)
     (search taken_has) are)
-
-module _ (setting : Setting) (last : Kept) (map : Map) (contents : ℕ → List ℕ) (calls : List HoldingCall)
-    (old new : Core)
-    (disk : Disk) (actor : ℕ) (run : CommitRun) (lawful : Lawful disk) (is : IsCore old)
-    (table : IsTable old.pool.blocks.table) (begins : BeginsCommitSo old new actor run) (are : AreCallsOf old calls)
-    (stands : Stands setting last [] map contents calls None (at_disk old disk)) where
-  abbrev chosen : Reflow
-  chosen = run.uber.reflow
-
-  abbrev entries : List IndexEntry
-  entries = old.pool.blocks.table.entries
-
-  -- the group that is made
-  abbrev begun_group : Kept
-  begun_group = record { uber = uber_for old.pool chosen; entries = entries; map = map }
-
-  held : HoldsGroup setting last (pool_at (at_disk old disk))
-  held = search
-
-  may : MayRecord old.pool.uber.reflow old.pool.done chosen
-  may = Chooses old.holds begins.choice
-
-  on : FollowsOn old.pool.uber.reflow old.pool.done chosen
-  on = core_follows old chosen is may
-
-  widths : KeepsOrEnds old.pool.uber.reflow chosen
-  widths = search (choice_widths, arith)
-
-  is_ready : IsReady old.pool chosen
-  is_ready = begins_ready old chosen is table begins.none begins.few (omega (arith, begins.limit)) may widths
-
-  come : IsCommitting setting last begun_group (commit_of old.pool chosen) (point_of old.pool.out disk)
-  come = committing_begins setting [] last begun_group (point_of old.pool.out disk) is_ready.right lawful
-      (may_commit setting last map (pool_at (at_disk old disk)) (rests_pool old is begins.none)
-      (bank_within old disk is stands.bank) held stands.holds chosen on widths is.step is_ready [])
-
-  -- Its blocks are those of the table.
-  listed : (entry : IndexEntry) → Contains entries entry → IsListed entries entry
-  listed entry has = among_listed entries entry table.index has
-
-  -- The commit has begun, and the rest stands as it did.
-  begun_stands : Stands setting last (begun_group ∷ []) map contents calls (Some (commit_of old.pool chosen))
-      (at_disk (begun_by old new.holds actor) disk)
-  begun_stands = record {
-    groups = record {
-      next = begun_group;
-      begun_is = refl;
-      of = search (begun_commit, is_ready);
-      come = come;
-      lies = record {
-        born = search (listed, arith);
-        inside = λ entry has. listed_in_pool (as_begun old) entry is.is is.step (listed entry has);
-      };
-      kept = search blocks_kept;
-      spared = search spare_table;
-    };
-    alike = stands.alike;
-    kept = stands.kept;
-    spared = stands.spared;
-    excepted = stands.excepted;
-    shape = stands.shape;
-    tells = stands.tells;
-    bank = stands.bank;
-    holds = stands.holds;
-    each = λ call has. call_stays Nowhere (contents (actor_of call)) (at_disk old disk)
-        (at_disk (begun_by old new.holds actor) disk) call (search) (search call_off_nowhere) (stands.each call has);
-  }
 
 -- A commit begins: it makes the group of the map as it is.
 pub commit_begins_stands : {setting : Setting} {last : Kept} {begun : List Kept} {map : Map} {contents : ℕ → List ℕ}
@@ -104,28 +32,63 @@ pub commit_begins_stands : {setting : Setting} {last : Kept} {begun : List Kept}
     × KeepsOrEnds old.pool.uber.reflow next.uber.reflow × (next.uber.parity ≡ old.pool.uber.parity)
     × Stands setting last (next ∷ []) map contents calls (Some run) (at_disk new disk)
 commit_begins_stands {setting} {last} {begun} {map} {contents} {calls} {old} {new} {disk} {actor} {run} lawful is table
-    begins
-    are stands = (
-      next,
-      refl,
-      search (rests, arith),
-      search (widths, alone),
-      refl,
-      subst (λ (core : Core). Stands setting last (next ∷ []) map contents calls (Some run) (at_disk core disk))
-          (sym begins.rest)
-          (rw begins.run_is (begun_stands setting last map contents calls old new disk actor run lawful is table begins
-          are alone)),
-    )
+    begins are stands = (next, refl, search (rests, arith), widths, refl, rw begins.rest (rw begins.run_is now))
   where
+    chosen : Reflow
+    chosen = run.uber.reflow
+
+    entries : List IndexEntry
+    entries = old.pool.blocks.table.entries
+
+    -- the group that is made
     next : Kept
-    next = record {
-      uber = uber_for old.pool run.uber.reflow;
-      entries = old.pool.blocks.table.entries;
-      map = map;
-    }
+    next = record { uber = uber_for old.pool chosen; entries = entries; map = map }
+
+    -- the core once it is begun
+    begun_core : Core
+    begun_core = record old { holds = new.holds; begun = old.begun + 1; committing = Some actor }
 
     alone : Stands setting last [] map contents calls None (at_disk old disk)
     alone = search (few_out, arith)
+
+    may : MayRecord old.pool.uber.reflow old.pool.done chosen
+    may = Chooses old.holds begins.choice
+
+    widths : KeepsOrEnds old.pool.uber.reflow chosen
+    widths = search (choice_widths, arith)
+
+    is_ready : IsReady old.pool chosen
+    is_ready = begins_ready old chosen is table begins.none begins.few (omega (arith, begins.limit)) may widths
+
+    come : IsCommitting setting last next (commit_of old.pool chosen) (point_of old.pool.out disk)
+    come = committing_begins setting [] last next (point_of old.pool.out disk) is_ready.right lawful
+        (may_commit setting last map (pool_at (at_disk old disk)) (rests_pool old is begins.none)
+        (bank_within old disk is alone.bank) (search alone) alone.holds chosen
+        (core_follows old chosen is may) widths is.step
+        is_ready [])
+
+    -- Its blocks are those of the table.
+    listed : (entry : IndexEntry) → Contains entries entry → IsListed entries entry
+    listed entry has = among_listed entries entry table.index has
+
+    -- The commit has begun, and the rest stands as it did.
+    now : Stands setting last (next ∷ []) map contents calls (Some (commit_of old.pool chosen))
+        (at_disk begun_core disk)
+    now =
+        let groups : CommitStands setting last (next ∷ []) calls (commit_of old.pool chosen) (at_disk begun_core disk) =
+        record {
+          next = next;
+          begun_is = refl;
+          of = search (begun_commit, is_ready);
+          come = come;
+          lies = record {
+            born = search (listed, arith);
+            inside = λ entry has. listed_in_pool (as_begun old) entry is.is is.step (listed entry has);
+          };
+          kept = search blocks_kept;
+          spared = search spare_table;
+        } in
+        search (calls_hold_on contents calls old begun_core disk refl alone.each)
 
 -- ---- a step of it
 

@@ -1,6 +1,5 @@
 -- Commits, turn by turn: how one begins, and that the pool stays one.
-use Rattle.core_turns.proofs.Words.{◌≡◌, ℕ, ◌+◌, ◌^◌, ◌<◌, ◌≤◌, List, length, None, Some, Option, refl, sym, ◌∙◌, ap, subst, arith, cases_lt, sha256, Hold, Exclusive, HasSectors, IsClear, commit_clear, range_below, State, Valid, Moved, Reflow, IndexEntry, index_page, IsTable, count_of, Uber, max_group, IsRightUber, IsCommitChoice, IsWiderByOne, MayRecord, Chooses, Widens, choice_clear, FollowsOn, KeepsOrEnds, IsFrontOf, choice_widths, follows, plan_of, Lays, CommitRun, none_above_more, next_uber, uber_for, IsPool, IsReady, ready, Core, IsCore, as_begun, groups_begun, HasTooManyOut, BeginsCommitSo, IsCommitOf, TakesHold, commit_of, hold_for}
-use Rattle.reflow_mark.specs.declared.reflow.State.TheVariants.{None as Unmoved}
+use Rattle.core_turns.proofs.Words.{◌≡◌, ℕ, ◌+◌, ◌^◌, ◌<◌, ◌≤◌, List, length, None, Some, refl, arith, cases_lt, sha256, Hold, Exclusive, HasSectors, IsClear, commit_clear, range_below, Reflow, IndexEntry, index_page, IsTable, count_of, Uber, max_group, IsRightUber, IsCommitChoice, IsWiderByOne, MayRecord, Chooses, choice_clear, FollowsOn, KeepsOrEnds, IsFrontOf, choice_widths, follows, plan_of, Lays, CommitRun, none_above_more, next_uber, uber_for, IsPool, IsReady, ready, Core, IsCore, as_begun, HasTooManyOut, BeginsCommitSo, IsCommitOf, TakesHold, commit_of, hold_for}
 use Rattle.open_pool.proofs.NewBirth.{rows_of}
 use Rattle.core_turns.proofs.Holds.{alone_begins, none_below, taken_count}
 
@@ -10,7 +9,7 @@ few_out core few = search (cases_lt, arith)
 
 -- Where no commit is under way, the group begun last is the last answered one.
 pub rests : (core : Core) → IsCore core → core.committing ≡ None → core.begun ≡ core.pool.uber.group
-rests core is none = omega (arith, is.begun ∙ ap (λ (by : Option ℕ). core.pool.uber.group + groups_begun by) none)
+rests core is none = grind arith
 
 -- So the pool is one with its own uberblock.
 pub rests_pool : (core : Core) → IsCore core → core.committing ≡ None → IsPool core.pool
@@ -44,26 +43,13 @@ begins_ready core chosen is table none few limit choice widths =
 -- Where a device joins, no sector's standing changes.
 wider_changes_none : (reflow chosen : Reflow) (actor : ℕ) → IsWiderByOne reflow chosen
     → HasSectors (hold_for reflow chosen actor) → ⊥
-wider_changes_none reflow chosen actor wider some = search (by, arith)
-  where
-    by : (from to rows mark : ℕ) (state : State) → HasSectors (hold_for (record {
-      from = from;
-      to = to;
-      rows = rows;
-      mark = mark;
-      state = state;
-    }) (record { from = from; to = to + 1; rows = rows; mark = mark; state = state }) actor) → ⊥
-    by from to rows mark Unmoved some = omega arith
-    by from to rows mark Valid some = omega (arith, some)
-    by from to rows mark Moved some = omega (arith, some)
+wider_changes_none reflow chosen actor wider some = grind arith
 
 -- The sectors whose standing a commit's choice changes begin below the front, if it changes any.
 pub change_below : (reflow : Reflow) (done : ℕ) (chosen : Reflow) (actor : ℕ) → IsFrontOf reflow done
     → MayRecord reflow done chosen → HasSectors (hold_for reflow chosen actor)
     → (hold_for reflow chosen actor).lo < done
-change_below reflow done chosen actor front (Chooses holds choice) some =
-    omega (arith, range_below reflow done holds chosen front choice)
-change_below reflow done chosen actor front (Widens wider) some = search wider_changes_none
+change_below reflow done chosen actor front may some = search (range_below, wider_changes_none, arith)
 
 -- A core at which the next group was begun is one.
 pub begun_core : (core : Core) (holds : List Hold) (actor : ℕ) (chosen : Reflow) → IsCore core → core.committing ≡ None
@@ -71,31 +57,12 @@ pub begun_core : (core : Core) (holds : List Hold) (actor : ℕ) (chosen : Reflo
     → TakesHold core.holds holds (hold_for core.pool.uber.reflow chosen actor)
     → IsCore (record core { holds = holds; begun = core.begun + 1; committing = Some actor })
 begun_core core holds actor chosen is none limit may takes =
-    let uber = core.pool.uber in
     let right = (rests_pool core is none).right in
     let number = rests core is none in
-    record {
-      is = record {
-        right = search (none_above_more, arith);
-        parity = is.is.parity;
-        births = is.is.births;
-        capacity = is.is.capacity;
-        born = search arith;
-        front = is.is.front;
-        lists = is.is.lists;
-      };
-      reach = is.reach;
-      rests = λ rests. cc;
-      below = is.below;
-      begun = (omega (arith, number));
-      few = limit;
-      step = is.step;
-      shared = λ rests. absurd (under_way rests);
-      copies = search (taken_count, change_below);
-    }
-  where
-    under_way : Some actor ≡ None → ⊥
-    under_way same = cc
+    let under_way : Some actor ≡ None → ⊥ = λ same. cc in
+    let pool : IsPool (as_begun (record core { holds = holds; begun = core.begun + 1; committing = Some actor })) =
+    search (none_above_more, arith) in
+    search (taken_count, change_below, under_way, arith)
 
 -- The commit that makes it is one of the core.
 pub begun_commit : (core : Core) (holds : List Hold) (actor : ℕ) (chosen : Reflow) → IsCore core
@@ -104,23 +71,17 @@ pub begun_commit : (core : Core) (holds : List Hold) (actor : ℕ) (chosen : Ref
     → TakesHold core.holds holds (hold_for core.pool.uber.reflow chosen actor)
     → IsCommitOf (record core { holds = holds; begun = core.begun + 1; committing = Some actor })
     (commit_of core.pool chosen)
-begun_commit core holds actor chosen is none ready choice takes = record {
-  actor = actor;
-  under_way = refl;
-  number = search rests;
-  next = record {
-    right = ready.right;
-    number = refl;
-    pool_is = refl;
-    parity = refl;
-    choice = Chooses core.holds choice;
-    births = refl;
-  };
-  holds = alone_begins core.pool.done core.holds holds (hold_for core.pool.uber.reflow chosen actor) refl
-      (search (change_below, arith)) (is.shared none) (search choice_clear) takes;
-  lists = λ device has. has;
-  reach = search (rows_of, choice_widths, arith);
-}
+begun_commit core holds actor chosen is none ready choice takes =
+    let may : MayRecord core.pool.uber.reflow core.pool.done chosen = Chooses core.holds choice in
+    record {
+      actor = actor;
+      under_way = refl;
+      number = search rests;
+      next = search (may, ready, arith);
+      holds = search (alone_begins, change_below, is.shared, choice_clear, arith);
+      lists = λ device has. has;
+      reach = search (rows_of, choice_widths, arith);
+    }
 
 -- A commit begins: what that makes of the core, in its parts.
 module _ (core : Core) (actor : ℕ) (before chosen : Reflow) (is : IsCore core) (table : IsTable core.pool.blocks.table)
@@ -137,13 +98,14 @@ module _ (core : Core) (actor : ℕ) (before chosen : Reflow) (is : IsCore core)
   its_widths = search (choice_widths, its_choice, arith)
 
   pub begins_ready_now : IsReady core.pool chosen
-  begins_ready_now = begins_ready core chosen is table none few (omega arith) begins_may its_widths
+  begins_ready_now = begins_ready core chosen is table none few (omega arith) begins_may
+      (search (choice_widths, its_choice, arith))
 
   -- The sectors whose standing changes are clear to be held alone.
   pub begins_clear : HasSectors (hold_for before chosen actor)
       → IsClear core.holds (hold_for before chosen actor).lo (hold_for before chosen actor).hi Exclusive
-  begins_clear some = commit_clear before core.pool.done core.holds chosen (search arith)
-      (none_below core.pool.done core.holds (is.shared none)) choice some
+  begins_clear = commit_clear before core.pool.done core.holds chosen (search arith)
+      (none_below core.pool.done core.holds (is.shared none)) choice
 
   module _ (entries : List IndexEntry) (next : Uber) (entries_are : entries ≡ core.pool.blocks.table.entries)
       (next_is : next ≡ next_uber core.pool.uber chosen (length entries) (sha256 (index_page entries)) core.pool.out)
@@ -152,11 +114,12 @@ module _ (core : Core) (actor : ℕ) (before chosen : Reflow) (is : IsCore core)
       next_for = cc
 
       pub begins_right : IsRightUber next
-      begins_right = subst IsRightUber (sym next_for) begins_ready_now.right
+      begins_right = rw next_for begins_ready_now.right
 
       pub begins_so : (holds : List Hold) (index : List IndexEntry) (run : CommitRun)
           → TakesHold core.holds holds (hold_for before chosen actor) → index ≡ entries
           → run ≡ record { uber = next; entries = index; calls = plan_of next.reflow.to next.count; stage = Lays }
-          → BeginsCommitSo core (record core { holds = holds; begun = core.begun + 1; committing = Some actor }) actor run
-      begins_so holds index run takes index_is run_is =
-          search (next_for, its_choice, begun_commit, begins_ready_now, arith)
+          → BeginsCommitSo core (record core { holds = holds; begun = core.begun + 1; committing = Some actor }) actor
+          run
+      begins_so holds index run takes index_is run_is = search
+          (next_for, its_choice, begun_commit, begins_ready_now, arith)

@@ -1,7 +1,8 @@
 -- What a turn leaves of the calls that are under way beside it.
-use Rattle.core_turns.proofs.Words.{◌≡◌, ◌≢◌, ⊎_elim, ℕ, ◌≤◌, List, [], Option, false, refl, sym, ◌∙◌, ap, subst, arith, Contains, Unchanged, TouchesOnly, Hold, EndsHold, Reflow, Layout, IsRequiredPlace, IsFrontOf, IndexEntry, has_device, IsWithin, layout_of, Cell, IsCell, Nowhere, IsDataSector, AreUnderWay, IsListed, layout_run, AreClear, gains_cases, point_of, IsInPool, IsWrittenSoFar, written_stays, SparesData, count_grows, CopyRun, GetRun, PutRun, Core, CoreState, IsGetOf, HoldsGet, AsksAlike, IsPutOf, HoldsPut, CopiesCells, IsJobOf, HoldingCall, Putting, Reading, Copying, hold_of_call, ranges_of, IsCallOfCore, HoldsCall, AreCallsOf}
+use Rattle.core_turns.proofs.Words.{◌≡◌, ◌≢◌, ℕ, ◌≤◌, List, [], Option, false, ◌∙◌, arith, Contains, Unchanged, TouchesOnly, Hold, EndsHold, Reflow, Layout, IsRequiredPlace, IsFrontOf, IndexEntry, has_device, IsWithin, layout_of, Cell, IsCell, Nowhere, IsDataSector, AreUnderWay, IsListed, layout_run, AreClear, point_of, IsInPool, written_stays, SparesData, count_grows, CopyRun, GetRun, PutRun, Core, CoreState, IsGetOf, HoldsGet, AsksAlike, IsPutOf, HoldsPut, IsJobOf, HoldingCall, Putting, Reading, Copying, hold_of_call, ranges_of, IsCallOfCore, HoldsCall, AreCallsOf, actor_of, at_disk, Disk}
 use Rattle.core_turns.proofs.Beside.{IsWrittenTo, never_both, required_data, written_cell}
 use Rattle.core_turns.proofs.GetLaws.{get_stays}
+use Rattle.core_turns.proofs.Holds.{ends_stays}
 use Rattle.core_turns.proofs.JobLaws.{IsJobOff, job_leaves, none_before}
 
 -- What a turn leaves: the pool's widths and its front stay, no device comes back, and on those in use each data sector that is
@@ -54,101 +55,6 @@ off_written reflow done layout other out front pool other_pool clear = search (n
 abbrev pub OnlyOut : Core → Core → Type 0
 OnlyOut old new = new ≡ record old { pool = record old.pool { out = new.pool.out } }
 
--- A turn that reads leaves all,
-pub leaves_read : (before after : CoreState) → IsFrontOf before.core.pool.uber.reflow before.core.pool.done
-    → OnlyOut before.core after.core
-    → IsWithin before.core.pool.out after.core.pool.out → Unchanged before.disk after.disk → Leaves Nowhere before after
-leaves_read before after front core within same = record {
-  parity = ap (λ (c : Core). c.pool.uber.parity) core;
-  births = ap (λ (c : Core). c.pool.uber.births) core;
-  reflow = ap (λ (c : Core). c.pool.uber.reflow) core;
-  done = ap (λ (c : Core). c.pool.done) core;
-  front = front;
-  within = within;
-  reads = search arith;
-}
-
--- one that writes leaves what it does not touch,
-pub leaves_touched : (P : ℕ → ℕ → Type 0) (before after : CoreState)
-    → IsFrontOf before.core.pool.uber.reflow before.core.pool.done → OnlyOut before.core after.core
-    → IsWithin before.core.pool.out after.core.pool.out → TouchesOnly P before.disk after.disk → Leaves P before after
-leaves_touched P before after front core within touched = record {
-  parity = ap (λ (c : Core). c.pool.uber.parity) core;
-  births = ap (λ (c : Core). c.pool.uber.births) core;
-  reflow = ap (λ (c : Core). c.pool.uber.reflow) core;
-  done = ap (λ (c : Core). c.pool.done) core;
-  front = front;
-  within = within;
-  reads = search arith;
-}
-
--- and a step of a commit leaves all data sectors.
-pub leaves_spared : (before after : CoreState) → IsFrontOf before.core.pool.uber.reflow before.core.pool.done
-    → OnlyOut before.core after.core → IsWithin before.core.pool.out after.core.pool.out
-    → SparesData (point_of before.core.pool.out before.disk) (point_of after.core.pool.out after.disk)
-    → Leaves Nowhere before after
-leaves_spared before after front core within spares = record {
-  parity = ap (λ (c : Core). c.pool.uber.parity) core;
-  births = ap (λ (c : Core). c.pool.uber.births) core;
-  reflow = ap (λ (c : Core). c.pool.uber.reflow) core;
-  done = ap (λ (c : Core). c.pool.done) core;
-  front = front;
-  within = within;
-  reads = search arith;
-}
-
--- ---- calls beside a turn
-
--- What has been written of a put stays.
-pub put_stays : (P : ℕ → ℕ → Type 0) (content : List ℕ) (before after : CoreState) (run : PutRun)
-    → Leaves P before after → IsOff P before.core.pool.uber.reflow before.core.pool.done run.range.layout
-    → HoldsPut content before run → HoldsPut content after run
-put_stays P content before after run leaves off holds =
-    let layout = run.range.layout in
-    let reflow = before.core.pool.uber.reflow in
-    let done = before.core.pool.done in
-    record {
-      len_is = holds.len_is;
-      are_bytes = holds.are_bytes;
-      so_far = λ filled is. let was = holds.so_far filled is in (
-        was.0,
-        subst (λ (at : Reflow × ℕ). IsWrittenSoFar layout content at.0 at.1 after.disk.reads after.core.pool.out
-            filled.write) (λ i. (sym leaves.reflow i, sym leaves.done i))
-            (written_stays layout content reflow done before.disk.reads after.disk.reads
-            before.core.pool.out after.core.pool.out filled.write leaves.within
-            (λ write has used.
-            let cell = written_cell layout content reflow done filled.write write was.1.plan has in
-            leaves.reads write.device write.device_sector used (search (required_data, reflow, done)) (search)) was.1),
-      );
-    }
-
--- A read stays with its block.
-pub get_block_stays : (P : ℕ → ℕ → Type 0) (content : List ℕ) (before after : CoreState) (run : GetRun)
-    → Leaves P before after → IsOff P before.core.pool.uber.reflow before.core.pool.done run.read.layout
-    → HoldsGet content before run → HoldsGet content after run
-get_block_stays P content before after run leaves off holds = get_stays content before after run leaves.reflow
-    leaves.done leaves.within
-    (λ few many. few (
-    omega (arith, many, count_grows before.core.pool.out after.core.pool.out leaves.within, leaves.parity)))
-    (λ cell device device_sector is place used read. leaves.reads device device_sector used
-    (required_data before.core.pool.uber.reflow before.core.pool.done cell.row_end cell.sector device device_sector
-    leaves.front place) (off content cell device device_sector is place) ∙ read) holds
-
--- A job has come as far.
-job_stays : (P : ℕ → ℕ → Type 0) (before after : CoreState) (run : CopyRun) → Leaves P before after
-    → IsJobOff P before.core.pool.uber.reflow before.core.pool.done run.job
-    → HoldsCall before [] (Copying run) → HoldsCall after [] (Copying run)
-job_stays P before after run leaves off holds =
-    subst (λ (at : Reflow × ℕ). CopiesCells at.0 at.1 run.job (point_of after.core.pool.out after.disk))
-    (λ i. (sym leaves.reflow i, sym leaves.done i)) (search job_leaves)
-
-pub call_stays : (P : ℕ → ℕ → Type 0) (content : List ℕ) (before after : CoreState) (call : HoldingCall)
-    → Leaves P before after → IsCallOff P before.core.pool.uber.reflow before.core.pool.done call
-    → HoldsCall before content call → HoldsCall after content call
-call_stays P content before after (Putting run) = put_stays P content before after run
-call_stays P content before after (Reading run) = get_block_stays P content before after run
-call_stays P content before after (Copying run) = job_stays P before after run
-
 -- The widths of a core and of its blocks stay, and the group begun last is no earlier one.
 pub record KeepsWidths (old new : Core) : Type 0 where
   pub parity : new.pool.uber.parity ≡ old.pool.uber.parity
@@ -167,45 +73,95 @@ pub record KeepsCalls (old new : Core) : Type 0 where
 
 -- So they do where only devices went out.
 pub widths_out : (old new : Core) → OnlyOut old new → KeepsWidths old new
-widths_out old new core = record {
-  parity = ap (λ (c : Core). c.pool.uber.parity) core;
-  births = ap (λ (c : Core). c.pool.uber.births) core;
-  reflow = ap (λ (c : Core). c.pool.uber.reflow) core;
-  done = ap (λ (c : Core). c.pool.done) core;
-  block_parity = ap (λ (c : Core). c.pool.blocks.parity) core;
-  block_births = ap (λ (c : Core). c.pool.blocks.births) core;
-  begun = (let begun : new.begun ≡ old.begun = cc in omega arith);
-}
+widths_out old new core = search arith
+
+-- A turn that reads leaves all,
+pub leaves_read : (before after : CoreState) → IsFrontOf before.core.pool.uber.reflow before.core.pool.done
+    → OnlyOut before.core after.core
+    → IsWithin before.core.pool.out after.core.pool.out → Unchanged before.disk after.disk → Leaves Nowhere before after
+leaves_read before after front core within same = search (widths_out before.core after.core core, arith)
+
+-- one that writes leaves what it does not touch,
+pub leaves_touched : (P : ℕ → ℕ → Type 0) (before after : CoreState)
+    → IsFrontOf before.core.pool.uber.reflow before.core.pool.done → OnlyOut before.core after.core
+    → IsWithin before.core.pool.out after.core.pool.out → TouchesOnly P before.disk after.disk → Leaves P before after
+leaves_touched P before after front core within touched = search (widths_out before.core after.core core, arith)
+
+-- and a step of a commit leaves all data sectors.
+pub leaves_spared : (before after : CoreState) → IsFrontOf before.core.pool.uber.reflow before.core.pool.done
+    → OnlyOut before.core after.core → IsWithin before.core.pool.out after.core.pool.out
+    → SparesData (point_of before.core.pool.out before.disk) (point_of after.core.pool.out after.disk)
+    → Leaves Nowhere before after
+leaves_spared before after front core within spares = search (widths_out before.core after.core core, arith)
+
+-- ---- calls beside a turn
+
+-- What has been written of a put stays.
+pub put_stays : (P : ℕ → ℕ → Type 0) (content : List ℕ) (before after : CoreState) (run : PutRun)
+    → Leaves P before after → IsOff P before.core.pool.uber.reflow before.core.pool.done run.range.layout
+    → HoldsPut content before run → HoldsPut content after run
+put_stays P content before after run leaves off holds =
+    let layout = run.range.layout in
+    let reflow = before.core.pool.uber.reflow in
+    let done = before.core.pool.done in
+    record {
+      len_is = holds.len_is;
+      are_bytes = holds.are_bytes;
+      so_far = λ filled is. let was = holds.so_far filled is in (
+        was.0,
+        rw (leaves.reflow, leaves.done) (written_stays layout content reflow done before.disk.reads after.disk.reads
+            before.core.pool.out after.core.pool.out filled.write leaves.within
+            (λ write has used.
+            let cell = written_cell layout content reflow done filled.write write was.1.plan has in
+            leaves.reads write.device write.device_sector used (search required_data) (search)) was.1),
+      );
+    }
+
+-- A read stays with its block.
+pub get_block_stays : (P : ℕ → ℕ → Type 0) (content : List ℕ) (before after : CoreState) (run : GetRun)
+    → Leaves P before after → IsOff P before.core.pool.uber.reflow before.core.pool.done run.read.layout
+    → HoldsGet content before run → HoldsGet content after run
+get_block_stays P content before after run leaves off holds = get_stays content before after run leaves.reflow
+    leaves.done leaves.within (search (count_grows, leaves.parity, arith))
+    (λ cell device device_sector is place used read. leaves.reads device device_sector used
+    (search (required_data, leaves.front)) (search off) ∙ read) holds
+
+-- A job has come as far.
+job_stays : (P : ℕ → ℕ → Type 0) (before after : CoreState) (run : CopyRun) → Leaves P before after
+    → IsJobOff P before.core.pool.uber.reflow before.core.pool.done run.job
+    → HoldsCall before [] (Copying run) → HoldsCall after [] (Copying run)
+job_stays P before after run leaves off holds = rw (leaves.reflow, leaves.done) (search job_leaves)
+
+pub call_stays : (P : ℕ → ℕ → Type 0) (content : List ℕ) (before after : CoreState) (call : HoldingCall)
+    → Leaves P before after → IsCallOff P before.core.pool.uber.reflow before.core.pool.done call
+    → HoldsCall before content call → HoldsCall after content call
+call_stays P content before after (Putting run) = put_stays P content before after run
+call_stays P content before after (Reading run) = get_block_stays P content before after run
+call_stays P content before after (Copying run) = job_stays P before after run
+
+-- Where pool and disk are as they were each call holds what it held.
+pub calls_hold_on : (contents : ℕ → List ℕ) (calls : List HoldingCall) (old new : Core) (disk : Disk)
+    → new.pool ≡ old.pool
+    → ((call : HoldingCall) → Contains calls call → HoldsCall (at_disk old disk) (contents (actor_of call)) call)
+    → (call : HoldingCall) → Contains calls call → HoldsCall (at_disk new disk) (contents (actor_of call)) call
+calls_hold_on contents calls old new disk same each (Putting run) has =
+    let holds = each (Putting run) has in
+    record { len_is = holds.len_is; are_bytes = holds.are_bytes; so_far = rw same holds.so_far }
+calls_hold_on contents calls old new disk same each call has =
+    let holds = each call has in search (same, arith)
 
 -- A put is one of the pool still where its hold is there.
 pub put_of_stays : (old new : Core) (run : PutRun) → KeepsWidths old new → Contains new.holds run.hold → IsPutOf old run
     → IsPutOf new run
-put_of_stays old new run widths listed of = record {
-  pool = search arith;
-  front = search arith;
-  begun_pool = of.begun_pool;
-  begun_front = of.begun_front;
-  places = subst (λ (at : Reflow × ℕ). AsksAlike run.range.layout run.reflow run.done at.0 at.1)
-      (λ i. (sym widths.reflow i, sym widths.done i)) of.places;
-  range = search;
-  born = (of.born.0, (omega (arith, of.born.1, widths.begun)));
-  len = of.len;
-  holds = listed;
-  hold_is = of.hold_is;
-  filled = search arith;
-}
+put_of_stays old new run widths listed of =
+    let places : AsksAlike run.range.layout run.reflow run.done new.pool.uber.reflow new.pool.done =
+    rw (widths.reflow, widths.done) of.places in
+    search arith
 
 -- So is a read.
 pub get_of_stays : (old new : Core) (run : GetRun) → KeepsWidths old new → Contains new.holds run.hold → IsGetOf old run
     → IsGetOf new run
-get_of_stays old new run widths listed of = record {
-  layout_is = cc;
-  pool = search arith;
-  born = (omega (arith, of.born, widths.begun));
-  holds = listed;
-  actor = of.actor;
-  hold_is = cc;
-}
+get_of_stays old new run widths listed of = search arith
 
 -- So is a job.
 pub job_of_stays : (old new : Core) (run : CopyRun) → KeepsCalls old new → Contains new.holds run.hold → IsJobOf old run
@@ -227,20 +183,13 @@ hold_listed core (Copying run) of = of.holds
 -- also once that of another actor has ended.
 pub ends_other : (old new : List Hold) (gone hold : Hold) → EndsHold old new gone → Contains old hold
     → hold.actor ≢ gone.actor → Contains new hold
-ends_other old new gone hold ends listed apart = ⊎_elim
-    (search arith)
-    (λ left. left) (gains_cases new old gone hold (search) listed)
+ends_other old new gone hold ends listed apart = ends_stays old new gone hold ends (λ same. apart (cc)) listed
 
 -- The calls under way stay so while the widths, their holds and the puts' ranges do,
 pub calls_keep : (old new : Core) (calls : List HoldingCall) → KeepsCalls old new
     → ((hold : Hold) → Contains old.holds hold → Contains new.holds hold)
     → AreUnderWay new.pool.blocks (ranges_of calls) → AreCallsOf old calls → AreCallsOf new calls
-calls_keep old new calls keeps kept under are = record {
-  each = λ call listed. let of = are.each call listed in
-      search (call_of_stays, hold_listed);
-  under = under;
-  beside = are.beside;
-}
+calls_keep old new calls keeps kept under are = search (call_of_stays, hold_listed, are.each)
 
 -- so where a hold was taken, a commit or an attach begun or ended, or the pool reaches further,
 pub calls_beside : (core : Core) (holds : List Hold) (begun reach : ℕ) (committing attaching : Option ℕ)
@@ -252,25 +201,7 @@ pub calls_beside : (core : Core) (holds : List Hold) (begun reach : ℕ) (commit
       committing = committing;
       attaching = attaching;
     }) calls
-calls_beside core holds begun reach committing attaching calls more kept are = calls_keep core (record core {
-  holds = holds;
-  begun = begun;
-  reach = reach;
-  committing = committing;
-  attaching = attaching;
-}) calls (record {
-  widths = record {
-    parity = refl;
-    births = refl;
-    reflow = refl;
-    done = refl;
-    block_parity = refl;
-    block_births = refl;
-    begun = more;
-  };
-  copying = refl;
-  within = λ device has. has;
-}) kept are.under are
+calls_beside core holds begun reach committing attaching calls more kept are = search (calls_keep, arith)
 
 -- and so where only devices went out.
 pub calls_stay : (old new : Core) (calls : List HoldingCall) → OnlyOut old new → IsWithin old.pool.out new.pool.out

@@ -1,5 +1,5 @@
 -- What a turn leaves of the map, of the groups, and of all that stands.
-use Rattle.core_turns.proofs.Words.{◌≡◌, ℕ, ◌≤◌, List, Option, Some, None, refl, sym, ◌∙◌, ap, subst, arith, Contains, Disk, Lawful, Later, Unchanged, tells_later, Reflow, Layout, IndexEntry, IsWithin, Uber, Map, layout_of, Kept, Setting, KeepsSince, Nowhere, none_lost, unchanged_frames, knows_frame, might_at, MayRecord, IsListed, OnlyFailedGoOut, point_of, IsRightBlock, CommitRun, committing_unchanged, HoldsMap, bank_later, count_grows, block_stays, Core, CoreState, pool_at, IsHeldAlone, IsCommitOf, hold_for, HoldingCall, actor_of, HoldsCall, LiesInPool, PutsSpare, GroupsStand, Stands}
+use Rattle.core_turns.proofs.Words.{◌≡◌, ℕ, ◌≤◌, List, [], ◌∷◌, Option, Some, None, refl, ◌∙◌, ap, arith, Contains, Disk, Lawful, Later, Unchanged, tells_later, IndexEntry, IsWithin, Map, layout_of, Kept, Setting, KeepsSince, Nowhere, none_lost, unchanged_frames, knows_frame, might_at, MayRecord, IsListed, OnlyFailedGoOut, point_of, IsRightBlock, CommitRun, committing_unchanged, HoldsMap, bank_later, count_grows, block_stays, Core, CoreState, pool_at, IsHeldAlone, IsCommitOf, hold_for, HoldingCall, actor_of, HoldsCall, LiesInPool, PutsSpare, GroupsStand, Stands}
 use Rattle.core_turns.proofs.Beside.{required_data}
 use Rattle.core_turns.proofs.Holds.{KeepsAlone, keeps_same}
 use Rattle.core_turns.proofs.Frames.{Leaves, AreOff, IsCallOff, OnlyOut, call_stays}
@@ -16,21 +16,20 @@ map_stays P map before after leaves table off holds = search (right, arith)
         → map entry.id ≡ Some content
         → IsRightBlock (layout_of after.core.pool.uber.parity after.core.pool.uber.births entry) content
         after.core.pool.uber.reflow after.core.pool.done after.disk.reads after.core.pool.out
-    right entry content listed has =
-        let reflow = before.core.pool.uber.reflow in
-        let done = before.core.pool.done in
-        let layout = layout_of before.core.pool.uber.parity before.core.pool.uber.births entry in
-        subst (λ (at : Reflow × ℕ). IsRightBlock (layout_of after.core.pool.uber.parity after.core.pool.uber.births
-        entry) content at.0 at.1 after.disk.reads after.core.pool.out) (λ i. (sym leaves.reflow i, sym leaves.done i))
-        (subst (λ (l : Layout). IsRightBlock l content reflow done after.disk.reads after.core.pool.out)
-        (λ i. layout_of (sym leaves.parity i) (sym leaves.births i) entry)
-        (block_stays layout content reflow done before.disk.reads after.disk.reads
-        before.core.pool.out after.core.pool.out leaves.within
+    right entry content listed has = rw (leaves.parity, leaves.births, leaves.reflow, leaves.done)
+        (block_stays (layout_of before.core.pool.uber.parity before.core.pool.uber.births entry) content
+        before.core.pool.uber.reflow before.core.pool.done before.disk.reads after.disk.reads before.core.pool.out
+        after.core.pool.out leaves.within
         (λ cell device device_sector is place used read. leaves.reads device device_sector used
-        (required_data reflow done cell.row_end cell.sector device device_sector leaves.front place)
-        (off entry listed content cell device device_sector is place) ∙ read) (holds.right entry content listed has)))
+        (required_data before.core.pool.uber.reflow before.core.pool.done cell.row_end cell.sector device device_sector
+        leaves.front place) (off entry listed content cell device device_sector is place) ∙ read)
+        (holds.right entry content listed has))
 
 -- ---- the groups
+
+-- Where one group was begun it is that one.
+pub one_group : {one other : Kept} → one ∷ [] ≡ other ∷ [] → one ≡ other
+one_group same = cc
 
 -- What a turn leaves of the commit under way: the pool's uberblock and front, the group begun last and who makes it, and
 -- what it holds. Devices go out.
@@ -45,58 +44,40 @@ pub record LeavesCommit (old new : Core) : Type 0 where
 
 -- So it is one of the core still.
 pub commit_still : {run : CommitRun} (old new : Core) → LeavesCommit old new → IsCommitOf old run → IsCommitOf new run
-commit_still {run} old new leaves of = record {
-  actor = of.actor;
-  under_way = cc;
-  number = cc;
-  next = record {
-    right = of.next.right;
-    number = cc;
-    pool_is = cc;
-    parity = cc;
-    choice = subst (λ (at : Uber × ℕ). MayRecord at.0.reflow at.1 run.uber.reflow)
-        (λ i. (sym leaves.uber i, sym leaves.done i)) of.next.choice;
-    births = cc;
-  };
-  holds = subst (λ (at : Uber × ℕ). IsHeldAlone at.1 new.holds (hold_for at.0.reflow run.uber.reflow of.actor))
-      (λ i. (sym leaves.uber i, sym leaves.done i))
-      (leaves.holds (hold_for old.pool.uber.reflow run.uber.reflow of.actor) refl of.holds);
-  lists = search arith;
-  reach = cc;
-}
+commit_still {run} old new leaves of =
+    let choice : MayRecord new.pool.uber.reflow new.pool.done run.uber.reflow = rw (leaves.uber, leaves.done)
+    of.next.choice in
+    let holds : IsHeldAlone new.pool.done new.holds (hold_for new.pool.uber.reflow run.uber.reflow of.actor) =
+    rw (leaves.uber, leaves.done)
+    (leaves.holds (hold_for old.pool.uber.reflow run.uber.reflow of.actor) refl of.holds) in
+    record {
+      actor = of.actor;
+      under_way = cc;
+      number = cc;
+      next = search arith;
+      holds = holds;
+      lists = search arith;
+      reach = cc;
+    }
 
 -- Where only devices went out the commit is left.
 pub out_leaves : (old new : Core) → OnlyOut old new → IsWithin old.pool.out new.pool.out → LeavesCommit old new
-out_leaves old new core within = record {
-  uber = ap (λ (c : Core). c.pool.uber) core;
-  done = ap (λ (c : Core). c.pool.done) core;
-  begun = cc;
-  committing = cc;
-  reach = cc;
-  within = within;
-  holds = search (keeps_same, arith);
-}
+out_leaves old new core within = search (keeps_same, arith)
 
 -- The group's blocks lie in the pool still.
 pub lies_still : {kept : Kept} (old new : Core) → LeavesCommit old new → LiesInPool old kept → LiesInPool new kept
-lies_still old new leaves lies = record {
-  born = search arith;
-  inside = λ entry listed. rw leaves.uber (lies.inside entry listed);
-}
+lies_still old new leaves lies = record { born = search arith; inside = rw leaves.uber lies.inside }
 
 -- The laws of a disk held before where they hold after nothing was changed.
 lawful_before : {old new : Disk} → Unchanged old new → Lawful new → Lawful old
-lawful_before {old = old} {new = new} same lawful = record {
-  stays_read = search (leaves, arith);
-  reads_could = search (could, arith);
-  stays_could = λ d x bytes other is has. lawful.stays_could d x bytes other (leaves d x ∙ is) (search could);
-}
-  where
-    leaves : (d x : ℕ) → new.leaves new.clock d x ≡ old.leaves old.clock d x
-    leaves d x = search arith
-
-    could : (d x : ℕ) → new.could new.clock d x ≡ old.could old.clock d x
-    could d x = search arith
+lawful_before {old} {new} same lawful =
+    let leaves : (d x : ℕ) → new.leaves new.clock d x ≡ old.leaves old.clock d x = λ d x. search arith in
+    let could : (d x : ℕ) → new.could new.clock d x ≡ old.could old.clock d x = λ d x. search arith in
+    record {
+      stays_read = search (leaves, arith);
+      reads_could = search (could, arith);
+      stays_could = λ d x bytes other is has. lawful.stays_could d x bytes other (leaves d x ∙ is) (search could);
+    }
 
 -- The groups stand still where devices were read,
 pub groups_read : (setting : Setting) (last : Kept) (begun : List Kept) (calls : List HoldingCall)
@@ -110,68 +91,61 @@ groups_read setting last begun calls None before after core same outs lawful gro
       (unchanged_frames same) (λ d x nowhere. absurd nowhere) groups.knows;
   whole = search (count_grows, arith);
 }
-groups_read setting last begun calls (Some run) before after core same outs lawful groups = record {
-  next = groups.next;
-  begun_is = groups.begun_is;
-  of = search (commit_still, out_leaves);
-  come = search committing_unchanged;
-  lies = search (lies_still, out_leaves);
-  kept = search arith;
-  spared = λ run listed. rw core (groups.spared run listed);
-}
+groups_read setting last begun calls (Some run) before after core same outs lawful groups =
+    let leaves = out_leaves before.core after.core core outs.still in
+    record {
+      next = groups.next;
+      begun_is = groups.begun_is;
+      of = search commit_still;
+      come = search committing_unchanged;
+      lies = search lies_still;
+      kept = search arith;
+      spared = λ run listed. rw core (groups.spared run listed);
+    }
 
 -- and each image since a moment keeps what it kept: no moment is new.
 pub since_read : (setting : Setting) (groups : List Kept) (time : ℕ) (old new : Disk) → Unchanged old new
     → KeepsSince setting groups time old → KeepsSince setting groups time new
 since_read setting groups time old new same since = record {
   each = λ moment image from until might.
-      let early : moment ≤ old.clock = omega arith in
-      since.each moment image from early (search (might_at, arith));
+      let early : moment ≤ old.clock = omega arith in since.each moment image from early (search (might_at, arith));
 }
 
 -- ---- all that stands
 
--- What stands, where uberblock and blocks are as they were: the groups and the calls are told anew.
-pub stands_still : {setting : Setting} {last : Kept} {begun : List Kept} {map : Map} {contents nows : ℕ → List ℕ}
-    {calls nexts : List HoldingCall} {commit next : Option CommitRun} (P : ℕ → ℕ → Type 0) (before after : CoreState)
-    → Leaves P before after → AreOff P before.core → after.core.pool.uber ≡ before.core.pool.uber
-    → after.core.reach ≡ before.core.reach → after.core.pool.blocks ≡ before.core.pool.blocks
-    → Later before.disk after.disk → GroupsStand setting last begun nexts next after → PutsSpare after nexts last
-    → ((call : HoldingCall) → Contains nexts call → HoldsCall after (nows (actor_of call)) call)
-    → Stands setting last begun map contents calls commit before → Stands setting last begun map nows nexts next after
-stands_still {map = map} P before after leaves off uber reach blocks later groups spared each stands = record {
-  groups = groups;
-  alike = cc;
-  kept = search (uber, arith);
-  spared = spared;
-  excepted = stands.excepted;
-  shape = cc;
-  tells = tells_later later stands.tells;
-  bank = search (uber, reach, bank_later);
-  holds = map_stays P map before after leaves (cc) off stands.holds;
-  each = each;
-}
+module _ {setting : Setting} {last : Kept} {begun : List Kept} {map : Map} where
+  -- What stands, where uberblock and blocks are as they were: the groups and the calls are told anew.
+  pub stands_still : {contents nows : ℕ → List ℕ} {calls nexts : List HoldingCall} {commit next : Option CommitRun}
+      (P : ℕ → ℕ → Type 0) (before after : CoreState) → Leaves P before after → AreOff P before.core
+      → after.core.pool.uber ≡ before.core.pool.uber → after.core.reach ≡ before.core.reach
+      → after.core.pool.blocks ≡ before.core.pool.blocks
+      → Later before.disk after.disk → GroupsStand setting last begun nexts next after → PutsSpare after nexts last
+      → ((call : HoldingCall) → Contains nexts call → HoldsCall after (nows (actor_of call)) call)
+      → Stands setting last begun map contents calls commit before → Stands setting last begun map nows nexts next after
+  stands_still P before after leaves off uber reach blocks later groups spared each stands =
+      let holds = map_stays P map before after leaves (cc) off stands.holds in
+      search (uber, reach, tells_later, bank_later, arith)
 
--- So it is where only devices went out.
-pub stands_anew : {setting : Setting} {last : Kept} {begun : List Kept} {map : Map} {contents nows : ℕ → List ℕ}
-    {calls nexts : List HoldingCall} {commit next : Option CommitRun} (P : ℕ → ℕ → Type 0) (before after : CoreState)
-    → Leaves P before after → AreOff P before.core → OnlyOut before.core after.core → Later before.disk after.disk
-    → GroupsStand setting last begun nexts next after → PutsSpare after nexts last
-    → ((call : HoldingCall) → Contains nexts call → HoldsCall after (nows (actor_of call)) call)
-    → Stands setting last begun map contents calls commit before → Stands setting last begun map nows nexts next after
-stands_anew P before after leaves off core = stands_still P before after leaves off
-    (ap (λ (c : Core). c.pool.uber) core) (cc) (ap (λ (c : Core). c.pool.blocks) core)
+  -- So it is where only devices went out.
+  pub stands_anew : {contents nows : ℕ → List ℕ} {calls nexts : List HoldingCall} {commit next : Option CommitRun}
+      (P : ℕ → ℕ → Type 0) (before after : CoreState)
+      → Leaves P before after → AreOff P before.core → OnlyOut before.core after.core → Later before.disk after.disk
+      → GroupsStand setting last begun nexts next after → PutsSpare after nexts last
+      → ((call : HoldingCall) → Contains nexts call → HoldsCall after (nows (actor_of call)) call)
+      → Stands setting last begun map contents calls commit before → Stands setting last begun map nows nexts next after
+  stands_anew P before after leaves off core = stands_still P before after leaves off
+      (ap (λ (c : Core). c.pool.uber) core) (cc) (ap (λ (c : Core). c.pool.blocks) core)
 
--- What stands, over a turn that is none of these calls', as a step of a commit.
-pub stands_frame : {setting : Setting} {last : Kept} {begun : List Kept} {map : Map} {contents : ℕ → List ℕ}
-    {calls : List HoldingCall} {commit next : Option CommitRun} (P : ℕ → ℕ → Type 0) (before after : CoreState)
-    → Leaves P before after
-    → ((call : HoldingCall) → Contains calls call → IsCallOff P before.core.pool.uber.reflow before.core.pool.done call)
-    → AreOff P before.core → OnlyOut before.core after.core → Later before.disk after.disk
-    → GroupsStand setting last begun calls next after → Stands setting last begun map contents calls commit before
-    → Stands setting last begun map contents calls next after
-stands_frame {contents = contents} P before after leaves calls_off off core later groups stands =
-    stands_anew P before after leaves off core later groups
-    (λ run listed. rw core (stands.spared run listed))
-    (λ call listed. call_stays P (contents (actor_of call)) before after call leaves (calls_off call listed)
-    (stands.each call listed)) stands
+  -- What stands, over a turn that is none of these calls', as a step of a commit.
+  pub stands_frame : {contents : ℕ → List ℕ} {calls : List HoldingCall} {commit next : Option CommitRun}
+      (P : ℕ → ℕ → Type 0) (before after : CoreState) → Leaves P before after
+      → ((call : HoldingCall) → Contains calls call
+      → IsCallOff P before.core.pool.uber.reflow before.core.pool.done call)
+      → AreOff P before.core → OnlyOut before.core after.core → Later before.disk after.disk
+      → GroupsStand setting last begun calls next after → Stands setting last begun map contents calls commit before
+      → Stands setting last begun map contents calls next after
+  stands_frame {contents = contents} P before after leaves calls_off off core later groups stands =
+      stands_anew P before after leaves off core later groups
+      (λ run listed. rw core (stands.spared run listed))
+      (λ call listed. call_stays P (contents (actor_of call)) before after call leaves (calls_off call listed)
+      (stands.each call listed)) stands
