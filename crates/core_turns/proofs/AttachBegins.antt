@@ -1,5 +1,5 @@
 -- The commit of an attach begins: its group may be made with the new device, which is free.
-use Rattle.core_turns.proofs.Words.{◌≡◌, ℕ, ◌<◌, ◌≤◌, List, [], ◌∷◌, All, Some, None, sym, ◌∙◌, ap, subst, arith, All-cons, All-nil, Disk, Lawful, Uber, HasReadRing, RingRead, Map, read_devices, Kept, Setting, ReadsNoUber, IsWidenable, shape_of, reach_less, Laid, JoinRun, GuestSoFar, free_is_blank, Chooses, MayRecord, KeepsOrEnds, Checked, Joins, Core, CoreState, IsCore, at_disk, BeginsJoining, HasNewDevice, HoldsAttach, IsAttachRunOf, HoldingCall, AreCallsOf, Stands}
+use Rattle.core_turns.proofs.Words.{◌≡◌, ℕ, ◌<◌, ◌≤◌, List, [], ◌∷◌, Some, None, sym, ◌∙◌, ap, arith, All-cons, All-nil, Disk, Lawful, Uber, HasReadRing, RingRead, Map, read_devices, Kept, Setting, IsWidenable, shape_of, reach_less, Laid, JoinRun, GuestSoFar, free_is_blank, Chooses, KeepsOrEnds, Checked, Joins, Core, CoreState, IsCore, at_disk, BeginsJoining, HasNewDevice, HoldsAttach, IsAttachRunOf, HoldingCall, AreCallsOf, Stands}
 use Rattle.core_turns.proofs.AttachTurns.{rest_records}
 use Rattle.core_turns.proofs.Commits.{few_out, rests}
 use Rattle.core_turns.proofs.CommitStands.{commit_begins_stands}
@@ -14,20 +14,12 @@ reaching_to setting reach = record setting { reach = reach }
 pub narrow_stands : {setting : Setting} {last : Kept} {map : Map} {contents : ℕ → List ℕ} {calls : List HoldingCall}
     {state : CoreState} → Stands setting last [] map contents calls None state
     → Stands (reaching_to setting state.core.pool.uber.reflow.to) last [] map contents calls None state
-narrow_stands {setting} {last} {state = state} stands = search (reach_less, most, width_is, alone)
-  where
-    width : ℕ
-    width = state.core.pool.uber.reflow.to
-
-    width_is : width ≡ last.uber.reflow.to
-    width_is = ap (λ (u : Uber). u.reflow.to) stands.alike
-
-    most : last.uber.reflow.to ≤ setting.reach
-    most = (stands.groups.knows.row.widths 0 last (omega arith)).most
-
-    alone : All (λ (kept : Kept). kept.uber.reflow.to ≤ width) (last ∷ [])
-    alone = All-cons (λ (kept : Kept). kept.uber.reflow.to ≤ width) last [] (omega (arith, width_is))
-        (All-nil (λ (kept : Kept). kept.uber.reflow.to ≤ width))
+narrow_stands {setting} {last} {state = state} stands =
+    let IsNarrow : Kept → Type 0 = λ kept. kept.uber.reflow.to ≤ state.core.pool.uber.reflow.to in
+    let width_is = ap (λ (u : Uber). u.reflow.to) stands.alike in
+    let most = (stands.groups.knows.row.widths 0 last (omega arith)).most in
+    let alone = All-cons IsNarrow last [] (omega arith) (All-nil IsNarrow) in
+    search (reach_less, most, width_is, alone)
 
 -- ---- its first turn
 
@@ -55,16 +47,10 @@ module _ {setting : Setting} {last : Kept} {begun : List Kept} {map : Map} {cont
   kept : begins.0.uber.reflow ≡ before.core.pool.uber.reflow
   kept =
       let was = begins.5.groups in
-      let same : was.next ≡ begins.0 = one (cc) in
+      let same : was.next ≡ begins.0 = cc (was.begun_is) in
+      let reach = ap (λ (c : Core). c.reach) (sym joins.begins.rest) ∙ was.of.reach in
       ap (λ (k : Kept). k.uber.reflow) (sym same) ∙ ap (λ (u : Uber). u.reflow) (sym was.come.alike)
-      ∙ rest_records before.core join.run.uber.reflow is of.0.may
-      (ap (λ (c : Core). c.reach) (sym joins.begins.rest) ∙ was.of.reach) records
-    where
-      one : begins.5.groups.next ∷ [] ≡ begins.0 ∷ [] → begins.5.groups.next ≡ begins.0
-      one same = cc
-
-      records : MayRecord before.core.pool.uber.reflow before.core.pool.done join.run.uber.reflow
-      records = Chooses before.core.holds joins.begins.choice
+      ∙ rest_records before.core join.run.uber.reflow is of.0.may reach (Chooses before.core.holds joins.begins.choice)
 
   widenable : IsWidenable narrow last begins.0
   widenable =
@@ -75,9 +61,6 @@ module _ {setting : Setting} {last : Kept} {begun : List Kept} {map : Map} {cont
       search (kept, begins.2, alone.shape, arith)
 
   -- The device shows no uberblock, and nothing is laid on it yet.
-  free : ReadsNoUber before.disk width
-  free = search (free_is_blank, arith)
-
   guest : GuestSoFar before.disk begins.0 width (Laid 0)
   guest = search (free_is_blank, width, arith)
 
@@ -86,13 +69,10 @@ module _ {setting : Setting} {last : Kept} {begun : List Kept} {map : Map} {cont
       × (next.uber.reflow ≡ before.core.pool.uber.reflow) × (next.uber.parity ≡ before.core.pool.uber.parity)
       × Stands narrow last (next ∷ []) map contents calls (Some join.run) after
       × HoldsAttach narrow last (next ∷ []) after.disk (Joins join)
-  attach_joins_stands = (
-    begins.0,
-    begins.1,
-    begins.2,
-    kept,
-    begins.4,
-    subst (λ (d : Disk). Stands narrow last (begins.0 ∷ []) map contents calls (Some join.run) (at_disk after.core d))
-        (sym joins.disk) begins.5,
-    search (widenable, width, guest, arith),
-  )
+  attach_joins_stands =
+      let stood : (disk : Disk) → disk ≡ before.disk
+      → Stands narrow last (begins.0 ∷ []) map contents calls (Some join.run) (at_disk after.core disk) =
+      λ disk same. rw same begins.5 in
+      let holds : HoldsAttach narrow last (begins.0 ∷ []) after.disk (Joins join) =
+      search (widenable, width, guest, arith) in
+      (begins.0, begins.1, begins.2, kept, begins.4, stood after.disk joins.disk, holds)

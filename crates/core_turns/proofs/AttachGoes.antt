@@ -16,16 +16,14 @@ as_attach before after goes =
 -- Devices were read at most, and the pool is as it was.
 looked : (before after : CoreState) → after.core.pool ≡ before.core.pool → after.core.reach ≡ before.core.reach
     → Unchanged before.disk after.disk → AttachGoesOn before after
-looked before after pool reach unchanged =
-    record {
-      parity = cc;
-      reach = inl reach;
-      rows = cc;
-      later = unchanged.goes_on.later;
-      out = search
-          (true≢false, arith);
-      only = search read_touches;
-    }
+looked before after pool reach unchanged = record {
+  parity = cc;
+  reach = inl reach;
+  rows = cc;
+  later = unchanged.goes_on.later;
+  out = search (true≢false, arith);
+  only = search read_touches;
+}
 
 -- No device was called.
 none_called : (before after : CoreState) → after.core.pool ≡ before.core.pool → after.core.reach ≡ before.core.reach

@@ -1,5 +1,5 @@
 -- An attach's commit from its first turn to its last one: what stands stands, with the device where it joins.
-use Rattle.core_turns.proofs.Words.{inl, inr, ℕ, ◌+◌, List, [], ◌∷◌, Option, Some, None, Continues, Lawful, IsWithin, Answer, Map, Kept, Setting, Point, point_of, IsRowOf, KeepsSince, since_more, CommitRun, MayWiden, widened_kept, widened_run, committing_knows, goes_on, WhyDropped, JoinRun, JoinSteps, IsJoining, joining_goes_on, Joins, Core, CoreState, HasBankOf, IsCore, at_disk, EndsAttach, GoOutAndReach, HoldsAttach, MayReachOn, OnlyGoOut, StepsJoin, IsCommitOf, HoldingCall, AreCallsOf, Stands, shown_of}
+use Rattle.core_turns.proofs.Words.{arith, ℕ, ◌+◌, List, [], ◌∷◌, Option, Some, None, Continues, Lawful, IsWithin, Answer, Map, Kept, Setting, Point, point_of, IsRowOf, KeepsSince, since_more, CommitRun, MayWiden, widened_kept, widened_run, committing_knows, goes_on, WhyDropped, JoinRun, JoinSteps, IsJoining, joining_goes_on, Joins, Core, CoreState, HasBankOf, IsCore, at_disk, EndsAttach, GoOutAndReach, HoldsAttach, MayReachOn, OnlyGoOut, StepsJoin, IsCommitOf, HoldingCall, AreCallsOf, Stands, shown_of}
 use Rattle.join_commit.specs.declared.join_run.JoinStep.TheVariants as step
 use Rattle.core_turns.proofs.AttachStands.{attaching_stands, is_joining}
 use Rattle.core_turns.proofs.AttachTurns.{join_drops_commit, join_joins_commit, reaching_on}
@@ -12,9 +12,7 @@ use Rattle.core_turns.proofs.Joining.{joined_core, joined_stands}
 -- A call of the first half goes on from one disk to the next.
 join_continues : (old next : JoinRun) (before after : Point) → JoinSteps old before (step.GoesOn next) after
     → Continues before.disk after.disk
-join_continues old next before after (inl pool) = search goes_on
-join_continues old next before after (inr (inl laid)) = laid.wrote.goes_on
-join_continues old next before after (inr (inr synced)) = synced.synced.goes_on
+join_continues old next before after did = grind (arith, goes_on)
 
 module _ {setting : Setting} {last : Kept} {begun : List Kept} {map : Map} {contents : ℕ → List ℕ}
     {calls : List HoldingCall} {before : CoreState} (join : JoinRun) (after : CoreState) (is : IsCore before.core)
@@ -38,8 +36,7 @@ module _ {setting : Setting} {last : Kept} {begun : List Kept} {map : Map} {cont
       → IsRowOf groups last (shown_of begun (Some next.run))
       → KeepsSince setting groups time before.disk → KeepsSince setting groups time after.disk
   join_goes_since next groups time did within lawful row =
-      let goes : IsJoining setting last stands.groups.next next new =
-      search (joining_goes_on, its) in
+      let goes : IsJoining setting last stands.groups.next next new = search (joining_goes_on, its) in
       since_more setting groups time last [] before.disk after.disk (rw goes.lays at row)
       (join_continues join next old new did.steps) (rw goes.lays at
       (committing_knows setting last stands.groups.next next.run new goes.commits))

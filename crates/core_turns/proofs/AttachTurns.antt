@@ -1,5 +1,5 @@
 -- Attaches, turn by turn: that a core stays one, and what each turn comes to.
-use Rattle.core_turns.proofs.Words.{◌≡◌, inl, inr, ℕ, ◌+◌, ◌^◌, ◌<◌, Option, Some, None, sym, subst, arith, true≢false, Disk, Lawful, TouchesOnly, synced_touches, touches_widen, wrote_touches, Reflow, IsWithin, none_above, MayRecord, choice_still, Point, point_of, OnlyFailedGoOut, Called, CommitRun, IsOnInUse, widened_run, steps_same, JoinStep, WhyDropped, JoinRun, JoinSteps, join_gone, join_spares, Joins, Signs, Core, IsCore, IsCommitOf, HasNewDevice, IsAttachRunOf, MayReachOn}
+use Rattle.core_turns.proofs.Words.{◌≡◌, inl, inr, ℕ, ◌+◌, ◌^◌, ◌<◌, Option, Some, None, arith, true≢false, Disk, Lawful, TouchesOnly, synced_touches, touches_widen, wrote_touches, Reflow, IsWithin, none_above, MayRecord, choice_still, Point, point_of, OnlyFailedGoOut, Called, CommitRun, IsOnInUse, widened_run, steps_same, JoinStep, WhyDropped, JoinRun, JoinSteps, join_gone, join_spares, Joins, Signs, Core, IsCore, IsCommitOf, HasNewDevice, IsAttachRunOf, MayReachOn}
 use Rattle.join_commit.specs.declared.join_run.JoinStep.TheVariants as step
 use Rattle.core_turns.proofs.CommitGoes.{commit_stays, step_touches}
 use Rattle.core_turns.proofs.Cores.{core_out}
@@ -44,15 +44,8 @@ module _ (core : Core) (join : JoinRun) (out : ℕ) (old new : Disk) (is : IsCor
       → IsCommitOf (with_out core out) next.run
   join_goes_commit next (inl pool) = commit_stays core join.run next.run out old new Called of pool.called
       (join_still (step.GoesOn next) (inl pool))
-  join_goes_commit next (inr (inl laid)) = search (same_run, arith)
-    where
-      same_run : (next : JoinRun) → out ≡ core.pool.out → next.run ≡ join.run → IsCommitOf (with_out core out) next.run
-      same_run next out_is run_is = search arith
+  join_goes_commit next (inr (inl laid)) = same_run next laid.out (cc)
   join_goes_commit next (inr (inr synced)) = same_run next synced.out (cc)
-    where
-      same_run : (next : JoinRun) → out ≡ core.pool.out → next.run ≡ join.run → IsCommitOf (with_out core out) next.run
-      same_run next out_is run_is = subst (λ (at : ℕ × CommitRun). IsCommitOf (with_out core at.0) at.1)
-          (λ i. (sym out_is i, sym run_is i)) of
 
   -- and goes over into the second one without the device,
   pub join_drops_commit : (run : CommitRun) (because : WhyDropped)
@@ -86,23 +79,19 @@ module _ (core : Core) (join : JoinRun) (out : ℕ) (old new : Disk) (is : IsCor
   abbrev Region : ℕ → ℕ → Type 0
   Region = IsOnInUse (core.reach + 1) core.pool.out
 
-  wider : (P : ℕ → ℕ → Type 0) → ((d x : ℕ) → P d x → Region d x) → TouchesOnly P old new → TouchesOnly Region old new
-  wider P into touched = touches_widen P Region into touched
-
   guest_in : (device_sector : ℕ) → Region join.run.uber.reflow.to device_sector
   guest_in device_sector = search (none_above, arith)
 
   pub join_touches : (result : JoinStep) → Lawful old → JoinSteps join before result after → TouchesOnly Region old new
-  join_touches (step.GoesOn next) lawful (inl pool) =
-      wider (IsOnInUse core.reach core.pool.out) (search arith)
-      (step_touches core join.run next.run out old new Called is lawful of pool.called)
+  join_touches (step.GoesOn next) lawful (inl pool) = touches_widen (IsOnInUse core.reach core.pool.out) Region
+      (search arith) (step_touches core join.run next.run out old new Called is lawful of pool.called)
   join_touches (step.GoesOn next) lawful (inr (inl laid)) = search (wrote_touches, guest_in)
   join_touches (step.GoesOn next) lawful (inr (inr synced)) = search (synced_touches, guest_in)
   join_touches (step.Joined run) lawful did =
       step_touches (reaching_on core) (widened_run join.run) run out old new did.result
       (search joined_core) lawful (search joined_commit) did.steps
-  join_touches (step.Dropped run because) lawful did =
-      wider (IsOnInUse core.reach core.pool.out) (search arith) (search (step_touches, arith))
+  join_touches (step.Dropped run because) lawful did = touches_widen (IsOnInUse core.reach core.pool.out) Region
+      (search arith) (search (step_touches, arith))
 
   -- ---- the attach goes on
 
@@ -122,10 +111,7 @@ module _ (core : Core) (join : JoinRun) (out : ℕ) (old new : Disk) (is : IsCor
   pub join_drops_more : (run : CommitRun) (because : WhyDropped) → core.attaching ≡ core.committing
       → JoinSteps join before (step.Dropped run because) after
       → IsAttachRunOf (with_out core out) (Signs run (Some because))
-  join_drops_more run because attaching did = (
-    search join_drops_commit,
-    search (steps_same, kept, arith),
-  )
+  join_drops_more run because attaching did = (search join_drops_commit, search (steps_same, kept, arith))
 
   pub join_joins_more : (run : CommitRun) → core.attaching ≡ core.committing
       → JoinSteps join before (step.Joined run) after → IsAttachRunOf (with_out (reaching_on core) out) (Signs run None)

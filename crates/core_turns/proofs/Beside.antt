@@ -1,5 +1,5 @@
 -- Where a put writes: to no place that another block requires, nor one that a commit's groups ask for.
-use Rattle.core_turns.proofs.Words.{ℕ, ◌*◌, ◌/◌, ◌<◌, List, sym, subst, arith, Contains, mul-le-mul_left, cases_lt, Reflow, sectors_of, Layout, sector_of, end_of, IsRequiredPlace, front_after_stop, writes_of, Write, are_required, column_bytes, IndexEntry, layout_of, Kept, Setting, Asks, Cell, IsCell, IsDataSector, layout_run, SparesAll, AreClear, IsFrontOf, scratch_within, IsInPool, IsPlaceOf, IsPlanOf, BlockWrite, IsBeside, in_pool, blocks_apart}
+use Rattle.core_turns.proofs.Words.{ℕ, ◌*◌, ◌/◌, ◌<◌, List, arith, Contains, mul-le-mul_left, cases_lt, Reflow, sectors_of, Layout, sector_of, end_of, IsRequiredPlace, front_after_stop, writes_of, Write, are_required, column_bytes, IndexEntry, layout_of, Kept, Setting, Asks, Cell, IsCell, IsDataSector, layout_run, SparesAll, AreClear, IsFrontOf, scratch_within, IsInPool, IsPlaceOf, IsPlanOf, BlockWrite, IsBeside, in_pool, blocks_apart}
 
 -- the places that the writes of a block go to at a front
 abbrev pub IsWrittenTo : Layout → Reflow → ℕ → ℕ → ℕ → ℕ → Type 0
@@ -21,8 +21,7 @@ pub never_both : (reflow : Reflow) (done front : ℕ) (layout other : Layout) (o
     → IsRequiredPlace reflow front cell.row_end cell.sector device device_sector
     → IsWrittenTo layout reflow done out device device_sector → ⊥
 never_both reflow done front layout other out device device_sector cell given its_front other_front pool other_pool
-    clear
-    cell_is place (write, has, used, device_is, sector_is) =
+    clear cell_is place (write, has, used, device_is, sector_is) =
     let required = (are_required layout reflow done).only write has in
     blocks_apart reflow done front layout other write.row write.column cell_is.row cell_is.column device device_sector
     pool other_pool its_front other_front clear required.0 cell_is.there (search arith) (search arith)
@@ -43,10 +42,9 @@ pub never_asked : (kept : Kept) (reflow : Reflow) (done : ℕ) (layout : Layout)
 never_asked kept reflow done layout out device device_sector bytes front inside pool spares written asks =
     let of = asks.cell_is in
     let lies = inside.each of.entry of.listed in
-    never_both reflow done done layout (layout_of kept.uber.parity kept.uber.births of.entry) out device device_sector
-    asks.cell of.content front front pool lies (spares of.entry of.listed) of.cell_is
-    (inside.asked asks.cell.row_end asks.cell.sector device device_sector
-    (subst (λ (sector : ℕ). sector < sectors_of reflow) (sym of.cell_is.sector) (search in_pool)) asks.place) written
+    let below : asks.cell.sector < sectors_of reflow = rw of.cell_is.sector (search in_pool) in
+    let place = inside.asked asks.cell.row_end asks.cell.sector device device_sector below asks.place in
+    search (never_both, spares, arith)
 
 -- A put's writes go on beside a commit, of whose group and the one before none has a sector of the put.
 pub put_beside_commit : (setting : Setting) (first next : Kept) (reflow : Reflow) (done : ℕ) (layout : Layout) (out : ℕ)
@@ -57,17 +55,14 @@ pub put_beside_commit : (setting : Setting) (first next : Kept) (reflow : Reflow
 put_beside_commit setting first next reflow done layout out front inside_first inside_next pool spares_first spares_next
     = record {
       region = search data_sector;
-      not_first = λ device device_sector bytes written asks.
-          search never_asked;
-      not_next = λ device device_sector bytes written asks.
-          search never_asked;
+      not_first = λ device device_sector bytes written asks. search never_asked;
+      not_next = λ device device_sector bytes written asks. search never_asked;
     }
   where
     data_sector : {device : ℕ} (device_sector : ℕ) → IsWrittenTo layout reflow done out device device_sector
         → IsDataSector device_sector
     data_sector device_sector (write, has, used, device_is, sector_is) =
-        let required = (are_required layout reflow done).only write has in
-        subst IsDataSector (sym sector_is) (search required_data)
+        let required = (are_required layout reflow done).only write has in rw sector_is (search required_data)
 
 -- A place that a write of a plan goes to is required by a cell of its block.
 pub written_cell : (layout : Layout) (bytes : List ℕ) (reflow : Reflow) (done : ℕ) (run : BlockWrite) (write : Write)
@@ -75,12 +70,7 @@ pub written_cell : (layout : Layout) (bytes : List ℕ) (reflow : Reflow) (done 
     → (cell : Cell) × IsCell layout bytes cell
     × IsRequiredPlace reflow done cell.row_end cell.sector write.device write.device_sector
 written_cell layout bytes reflow done run write plan has =
-    let required = plan.required.only write has in (
-      record {
-        sector = sector_of layout write.row write.column;
-        row_end = end_of layout write.row;
-        bytes = column_bytes layout bytes write.row write.column;
-      },
-      search,
-      required.1,
-    )
+    let required = plan.required.only write has in
+    let sector = sector_of layout write.row write.column in
+    let bytes = column_bytes layout bytes write.row write.column in
+    (record { sector = sector; row_end = end_of layout write.row; bytes = bytes }, search, required.1)

@@ -1,5 +1,5 @@
 -- Commits, turn by turn: the group is answered, and what that makes of the core.
-use Rattle.core_turns.proofs.Words.{Contains, ◌≡◌, ℕ, ◌≤◌, List, None, Some, arith, Hold, HasSectors, exclusive_count, Reflow, sectors_of, Uber, MayRecord, front_behind, IsFrontOf, Blocks, CommitRun, answered_by, blocks_behind, IsPool, answered_pool, answered_step, may_grow_now, MayGrow, Core, IsCore, alone_below, jobs_begun, AnswersUber, DropsHold, IsHeldAlone, IsCommitOf, hold_for}
+use Rattle.core_turns.proofs.Words.{Contains, ◌≡◌, ℕ, ◌≤◌, List, None, Some, arith, Hold, HasSectors, exclusive_count, Reflow, sectors_of, Uber, MayRecord, front_behind, IsFrontOf, Blocks, CommitRun, answered_by, blocks_behind, IsPool, answered_pool, answered_step, may_grow_now, MayGrow, Core, IsCore, alone_below, jobs_begun, DropsHold, IsHeldAlone, IsCommitOf, hold_for}
 use Rattle.core_turns.proofs.Cores.{core_with}
 use Rattle.core_turns.proofs.Holds.{alone_ends, below_lower, others_end}
 use Rattle.core_turns.proofs.Commits.{core_follows}
@@ -20,11 +20,10 @@ pub answered_core : (core : Core) (run : CommitRun) (holds : List Hold) → IsCo
 answered_core core run holds is of none jobs =
     let on = core_follows core run.uber.reflow is of.next.choice in
     let pool = begun_pool core run is of in
+    let behind = front_behind core.pool.uber.reflow core.pool.done run.uber.reflow in
     let low = front_no_higher core.pool.uber.reflow core.pool.done run.uber.reflow is.is.front of.next.choice in
-    let fewer = below_lower (front_behind core.pool.uber.reflow core.pool.done run.uber.reflow) core.pool.done holds low
-    in
-    let none_behind : alone_below (front_behind core.pool.uber.reflow core.pool.done run.uber.reflow) holds ≡ 0 =
-    omega arith in
+    let fewer = below_lower behind core.pool.done holds low in
+    let none_behind : alone_below behind holds ≡ 0 = omega arith in
     search (answered_pool, answered_step, of.reach, arith)
 
 -- What a commit held was its actor's.
@@ -55,14 +54,11 @@ module _ (core : Core) (run : CommitRun) (uber : Uber) (before chosen : Reflow) 
     now_is : now ≡ record core { pool = answered_by uber core.pool; holds = holds; committing = None }
     now_is = cc
 
-    pub answers_uber : AnswersUber core now uber
-    answers_uber = search (its_drops, now_is)
-
     pub answers_core : IsCore now
-    answers_core = rw (now_is, ← uber_is) (search (answered_core, alone_ends, held, its_drops, others_end))
-      where
-        held : IsHeldAlone core.pool.done core.holds (hold_for core.pool.uber.reflow uber.reflow actor)
-        held = search (held_by_actor, arith)
+    answers_core =
+        let held : IsHeldAlone core.pool.done core.holds (hold_for core.pool.uber.reflow uber.reflow actor) =
+        search (held_by_actor, arith) in
+        rw (now_is, ← uber_is) (search (answered_core, alone_ends, its_drops, others_end))
 
 -- What the answer asks of the blocks where it ends an expansion.
 pub answer_grows : (core : Core) (run : CommitRun) → IsCore core → IsCommitOf core run

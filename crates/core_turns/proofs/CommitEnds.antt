@@ -1,12 +1,11 @@
 -- The end of a commit beside the calls that are under way: its group is the last answered one, and each call goes on at
 -- the places at which it began.
-use Rattle.core_turns.proofs.Words.{Contains, ◌≡◌, ℕ, ◌+◌, ◌≤◌, List, [], ◌∷◌, None, Option, Some, ap, IsRightBlock, refl, arith, Disk, Hold, Shared, Reflow, Layout, IndexEntry, IsWithin, Map, layout_of, Kept, Setting, Knows, Point, point_of, range_of_commit, chooses, FollowsOn, IsOutside, front_behind, held_outside, NoneFree, spot_of, IsColumnOf, Ended, CommitRun, HasEnded, IsCommitting, committing_done, committing_steps, GoesOnIn, MovesMark, choice_moves, answered_by, IsPool, answered_block, answered_in_pool, answered_kept, answered_layout, answered_map, answered_range, answered_spares, answered_under, CopyRun, GetRun, PutRun, Core, IsCore, CoreState, at_disk, HoldsGet, IsGetOf, AsksAlike, HoldsPut, IsPutOf, AnswersGroup, DropsHold, IsCommitOf, hold_for, CopiesCells, IsJobOf, HoldingCall, Putting, Reading, Copying, AreCallsOf, HoldsCall, IsCallOfCore, LiesInPool, PutsSpare, Stands}
+use Rattle.core_turns.proofs.Words.{Contains, ◌≡◌, ℕ, ◌+◌, ◌≤◌, List, [], ◌∷◌, None, Option, Some, ap, IsRightBlock, refl, arith, Disk, Hold, Shared, Reflow, Layout, IndexEntry, IsWithin, Map, layout_of, Kept, Setting, Knows, Point, point_of, range_of_commit, chooses, FollowsOn, IsOutside, front_behind, held_outside, NoneFree, spot_of, IsColumnOf, Ended, CommitRun, HasEnded, IsCommitting, committing_done, committing_steps, GoesOnIn, hold_for_job, MovesMark, choice_moves, answered_by, IsPool, answered_block, answered_in_pool, answered_kept, answered_layout, answered_map, answered_range, answered_spares, answered_under, CopyRun, GetRun, PutRun, Core, IsCore, CoreState, at_disk, HoldsGet, IsGetOf, hold_of, AsksAlike, HoldsPut, IsPutOf, AnswersGroup, DropsHold, IsCommitOf, hold_for, CopiesCells, IsJobOf, HoldingCall, Putting, Reading, Copying, AreCallsOf, HoldsCall, IsCallOfCore, LiesInPool, PutsSpare, Stands}
 use Rattle.core_turns.proofs.JobBeside.{cells_behind, goes_behind, job_holds_else}
 use Rattle.core_turns.proofs.Commits.{core_follows, core_rows}
 use Rattle.core_turns.proofs.CommitGoes.{commit_stays}
 use Rattle.core_turns.proofs.CommitAnswers.{begun_pool}
 use Rattle.core_turns.proofs.GetTurns.{get_shared}
-use Rattle.core_turns.proofs.StandFrames.{one_group}
 use Rattle.core_turns.proofs.Holds.{others_stay}
 use Rattle.core_turns.proofs.Moved.{put_holds_moves, put_moves}
 use Rattle.core_turns.proofs.PutStands.{put_shared}
@@ -79,23 +78,16 @@ module _ (core : Core) (run : CommitRun) (is : IsCore core) (of : IsCommitOf cor
         (search arith) its.range) its.born.1 (search (still_held, put_shared))
 
     get_answered : (get : GetRun) → IsGetOf core get → IsGetOf answered get
-    get_answered get its = record {
-      layout_is = search layout_same;
-      pool = search (answered_in_pool, pool, on);
-      born = its.born;
-      holds = search (still_held, get_shared);
-      actor = its.actor;
-      hold_is = search (layout_same, arith);
-    }
+    get_answered get its =
+        let same = layout_same get.entry its.born in
+        let held : get.hold ≡ hold_of answered.pool.uber get.entry its.actor = search (same, arith) in
+        search (same, answered_in_pool, pool, on, still_held, get_shared)
 
     job_answered : (job : CopyRun) → IsJobOf core job → IsJobOf answered job
-    job_answered job its = record {
-      under_way = its.under_way;
-      goes = job_goes job its.goes;
-      holds = search (others_stay, drops, job_holds_else);
-      hold_is = search (job_moves, arith);
-      read = its.read;
-    }
+    job_answered job its =
+        let moves = job_moves job its.goes in
+        let held : job.hold ≡ hold_for_job chosen job.job.job job.hold.actor = search arith in
+        search (job_goes, others_stay, drops, job_holds_else)
 
     call_answered : (call : HoldingCall) → IsCallOfCore core call → IsCallOfCore answered call
     call_answered call its = grind (arith, put_answered, get_answered, job_answered)
@@ -120,8 +112,8 @@ module _ (core : Core) (run : CommitRun) (is : IsCore core) (of : IsCommitOf cor
     get_holds : (disk : Disk) (content : List ℕ) (get : GetRun) → IsGetOf core get
         → HoldsGet content (at_disk core disk) get → HoldsGet content (at_disk answered disk) get
     get_holds disk content get its held =
-        let right : IsRightBlock get.read.layout content chosen behind disk.reads core.pool.out = search
-        (answered_block, pool, on) in
+        let right : IsRightBlock get.read.layout content chosen behind disk.reads core.pool.out =
+        search (answered_block, pool, on) in
         search (column_stays, spot_stays, get_outside, held.so_far.got, arith)
 
     job_holds : (disk : Disk) (job : CopyRun) → CopiesCells reflow core.pool.done job.job (point_of core.pool.out disk)
@@ -183,7 +175,7 @@ module _ {before after : CoreState} {run : CommitRun} {group : ℕ} (is : IsCore
       rw same at answers.answers.holds
 
   pub commit_ends_calls : (calls : List HoldingCall) → AreCallsOf before.core calls → AreCallsOf after.core calls
-  commit_ends_calls calls are = rw answers.answers.rest (search (answered_calls, of_ended, drops))
+  commit_ends_calls calls are = rw answers.answers.rest (search (answered_calls, drops))
 
   -- A commit ends: its group is the last one.
   pub commit_ends_stands : {setting : Setting} {last next : Kept} {map : Map} {contents : ℕ → List ℕ}
@@ -194,11 +186,11 @@ module _ {before after : CoreState} {run : CommitRun} {group : ℕ} (is : IsCore
       let was = stands.groups in
       let old = point_of before.core.pool.out before.disk in
       let new = point_of after.core.pool.out after.disk in
-      let same : next ≡ was.next = one_group was.begun_is in
+      let same : next ≡ was.next = cc (was.begun_is) in
       let come : IsCommitting setting last next run old = search (same, arith) in
       let went = committing_steps setting last next Ended run ended old new within answers.ends come in
       let disk : after.disk ≡ before.disk = ap (λ (p : Point). p.disk) answers.ends.same in
-      rw (answers.answers.rest, disk) (ended_stands before.core ended is of_ended after.core.holds drops setting last
-      next map contents calls
-      before.disk (rw disk at (committing_done setting last next run ended old new within answers.ends come))
-      went.alike (search arith) (search arith) (rw same was.spared) are stands)
+      let knows : Knows setting next [] before.disk =
+      rw disk at (committing_done setting last next run ended old new within answers.ends come) in
+      let spared : PutsSpare before calls next = rw same was.spared in
+      rw (answers.answers.rest, disk) (search (ended_stands, drops, went, same, arith))

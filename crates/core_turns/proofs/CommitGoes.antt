@@ -1,5 +1,5 @@
 -- Commits, turn by turn: what a step leaves, and what each turn does to the bank and the devices.
-use Rattle.core_turns.proofs.Words.{◌≡◌, ◌⊎◌, ℕ, ◌^◌, ◌<◌, length, sym, ◌∙◌, ap, arith, true≢false, Disk, Lawful, TouchesOnly, later_refl, touches_none, IsWithin, Uber, IsRightUber, Point, point_of, OnlyFailedGoOut, outs_none, CommitStep, Called, Ended, CommitRun, IsMadeReady, CommitSteps, FitsBank, IsOnInUse, ready_keeps, steps_same, steps_went, touched_none, touched_more, IsNextGroup, Pool, bank_later, ready, Turn, More, Done, Core, CoreState, IsCore, HasBankOf, IsCommitOf, StepsCommit, TurnGoesOn}
+use Rattle.core_turns.proofs.Words.{◌≡◌, ◌⊎◌, ℕ, ◌^◌, ◌<◌, length, ap, arith, true≢false, Disk, Lawful, TouchesOnly, later_refl, touches_none, IsWithin, Uber, IsRightUber, Point, point_of, OnlyFailedGoOut, outs_none, CommitStep, Called, Ended, CommitRun, CommitSteps, FitsBank, IsOnInUse, ready_keeps, steps_same, steps_went, touched_none, touched_more, IsNextGroup, Pool, bank_later, Turn, More, Done, Core, CoreState, IsCore, HasBankOf, IsCommitOf, StepsCommit, TurnGoesOn}
 use Rattle.core_state.specs.declared.answer.Answer.TheVariants as answer
 use Rattle.core_turns.proofs.Cores.{core_out}
 use Rattle.core_turns.proofs.Commits.{core_rows}
@@ -9,17 +9,6 @@ pub step_outs : (before after : Point) (run stepped : CommitRun) (result : Commi
     → CommitSteps run before stepped after result → OnlyFailedGoOut before after
 step_outs before after run stepped result did = search (steps_went, stepped, did, true≢false, arith)
 
--- What the uberblock lists as out is out still: it lists what was listed, or what is out by now.
-listed_still : (core : Core) (run ready : CommitRun) → IsWithin run.uber.out core.pool.out
-    → IsMadeReady core.pool.out run ready → IsWithin ready.uber.out core.pool.out
-listed_still core run ready lists made = grind arith
-
-step_lists : (core : Core) (run stepped : CommitRun) (out : ℕ) (old new : Disk) (result : CommitStep)
-    → IsWithin run.uber.out core.pool.out → IsWithin core.pool.out out
-    → CommitSteps run (point_of core.pool.out old) stepped (point_of out new) result → IsWithin stepped.uber.out out
-step_lists core run stepped out old new Called lists still did = search (listed_still, arith)
-step_lists core run stepped out old new Ended lists still did = search (listed_still, stepped, arith)
-
 -- The group of a commit is the pool's next one still, whatever it lists as out.
 pub step_next : (pool : Pool) (uber stepped : Uber) → stepped ≡ record uber { out = stepped.out } → IsRightUber stepped
     → IsNextGroup pool uber → IsNextGroup pool stepped
@@ -27,24 +16,20 @@ step_next pool uber stepped same right next =
     let widths = ap (λ (u : Uber). u.reflow) same in
     record { right = right; number = cc; pool_is = cc; parity = cc; choice = rw widths next.choice; births = cc }
 
--- It is right after a step.
-step_right : (run stepped : CommitRun) (before after : Point) (result : CommitStep)
-    → CommitSteps run before stepped after result → IsRightUber stepped.uber
-step_right run stepped before after Called did = search arith
-step_right run stepped before after Ended did = did.right
-
--- A commit stays one of the core over a step.
+-- A commit stays one of the core over a step: its group is right, and what that lists as out is out still.
 pub commit_stays : (core : Core) (run stepped : CommitRun) (out : ℕ) (old new : Disk) (result : CommitStep)
     → IsCommitOf core run → CommitSteps run (point_of core.pool.out old) stepped (point_of out new) result
     → IsWithin core.pool.out out → IsCommitOf (record core { pool = record core.pool { out = out } }) stepped
 commit_stays core run stepped out old new result of did still =
-    let same = (steps_same result run stepped (point_of core.pool.out old) (point_of out new) did).0 in record {
+    let same = (steps_same result run stepped (point_of core.pool.out old) (point_of out new) did).0 in
+    let right : IsRightUber stepped.uber = grind arith in
+    let lists : IsWithin stepped.uber.out out = grind arith in record {
       actor = of.actor;
       under_way = of.under_way;
       number = cc;
-      next = search (step_next, step_right, did);
+      next = search step_next;
       holds = search arith;
-      lists = search (step_lists, stepped, did, arith);
+      lists = lists;
       reach = cc;
     }
 
@@ -65,11 +50,10 @@ pub step_touches : (core : Core) (run stepped : CommitRun) (out : ℕ) (old new 
     → IsCore core → Lawful old → IsCommitOf core run → CommitSteps run (point_of core.pool.out old) stepped
     (point_of out new) result → TouchesOnly (IsOnInUse core.reach core.pool.out) old new
 step_touches core run stepped out old new Called is lawful of did =
-    let widths : did.ready.uber.reflow.to ≡ core.reach =
-    ap (λ (u : Uber). u.reflow.to) (ready_keeps core.pool.out run did.ready did.is_ready).uber ∙ sym of.reach in
+    let widths : did.ready.uber.reflow.to ≡ core.reach = search (ready_keeps, of.reach, did.is_ready, arith) in
+    let none = touched_none did.ready.uber (point_of core.pool.out old) in
     rw widths at (touched_more did.ready.uber did.ready.entries did.call (point_of core.pool.out old)
-    (point_of core.pool.out old)
-    (point_of out new) lawful did.inside (touched_none did.ready.uber (point_of core.pool.out old)) did.made).only
+    (point_of core.pool.out old) (point_of out new) lawful did.inside none did.made).only
 step_touches core run stepped out old new Ended is lawful of did =
     rw (ap (λ (p : Point). p.disk) did.same) (touches_none (IsOnInUse core.reach core.pool.out) old)
 
@@ -81,7 +65,7 @@ turn_nowhere state = search (later_refl, outs_none, touches_none)
 pub turn_still : (before after : CoreState) → after.core.pool.uber ≡ before.core.pool.uber
     → after.core.reach ≡ before.core.reach → after.core.pool.out ≡ before.core.pool.out → after.disk ≡ before.disk
     → TurnGoesOn before after
-turn_still before after uber reach outs disk = let none = turn_nowhere before in search (uber, reach, arith)
+turn_still before after uber reach outs disk = search (turn_nowhere before, uber, reach, arith)
 
 -- What a turn of a commit does, whether its group is answered or not.
 pub turn_steps : (before after : CoreState) (run stepped : CommitRun) (result : CommitStep) → IsCore before.core

@@ -4,7 +4,7 @@ use Rattle.core_turns.proofs.Calls.{range_listed}
 use Rattle.core_turns.proofs.Cores.{bank_within}
 use Rattle.core_turns.proofs.Commits.{begins_ready, begun_commit, core_follows, few_out, rests, rests_pool}
 use Rattle.core_turns.proofs.Frames.{OnlyOut, call_off_nowhere, off_nowhere, leaves_spared, calls_hold_on, calls_beside, calls_stay}
-use Rattle.core_turns.proofs.StandFrames.{stands_frame}
+use Rattle.core_turns.proofs.StandFrames.{group_still, stands_frame}
 use Rattle.core_turns.proofs.Holds.{taken_has}
 use Rattle.core_turns.proofs.WritesBeside.{shown_one}
 
@@ -118,18 +118,9 @@ module _ {setting : Setting} {last : Kept} {begun : List Kept} {map : Map} {cont
     -- A step of a commit leaves the rest as it stands.
     pub commit_moves_stands : Stands setting last begun map contents calls (Some next) after
     commit_moves_stands =
-        let was = stands.groups in
         let went = steps_went result run next old new steps in
         stands_frame Nowhere before after (search leaves_spared) (search call_off_nowhere) (search off_nowhere)
-        core went.spares.later (record {
-          next = was.next;
-          begun_is = was.begun_is;
-          of = of;
-          come = come_on;
-          lies = rw core (record { born = was.lies.born; inside = was.lies.inside });
-          kept = search arith;
-          spared = λ put has. rw core (was.spared put has);
-        }) stands
+        core went.spares.later (group_still before after stands.groups core of come_on) stands
 
     -- What images keep since a moment they keep over a step: beside the last group they can show what the commit has come
     -- to.

@@ -1,5 +1,5 @@
 -- Commits, turn by turn: how one begins, and that the pool stays one.
-use Rattle.core_turns.proofs.Words.{◌≡◌, ℕ, ◌+◌, ◌^◌, ◌<◌, ◌≤◌, List, length, None, Some, refl, arith, cases_lt, sha256, Hold, Exclusive, HasSectors, IsClear, commit_clear, range_below, Reflow, IndexEntry, index_page, IsTable, count_of, Uber, max_group, IsRightUber, IsCommitChoice, IsWiderByOne, MayRecord, Chooses, choice_clear, FollowsOn, KeepsOrEnds, IsFrontOf, choice_widths, follows, plan_of, Lays, CommitRun, none_above_more, next_uber, uber_for, IsPool, IsReady, ready, Core, IsCore, as_begun, HasTooManyOut, BeginsCommitSo, IsCommitOf, TakesHold, commit_of, hold_for}
+use Rattle.core_turns.proofs.Words.{◌≡◌, ℕ, ◌+◌, ◌^◌, ◌<◌, ◌≤◌, List, length, None, Some, arith, cases_lt, sha256, Hold, Exclusive, HasSectors, IsClear, commit_clear, range_below, Reflow, IndexEntry, index_page, IsTable, count_of, Uber, max_group, IsRightUber, IsCommitChoice, MayRecord, Chooses, choice_clear, FollowsOn, KeepsOrEnds, IsFrontOf, choice_widths, follows, plan_of, Lays, CommitRun, none_above_more, next_uber, uber_for, IsPool, IsReady, ready, Core, IsCore, as_begun, HasTooManyOut, BeginsCommitSo, IsCommitOf, IsHeldAlone, TakesHold, commit_of, hold_for}
 use Rattle.open_pool.proofs.NewBirth.{rows_of}
 use Rattle.core_turns.proofs.Holds.{alone_begins, none_below, taken_count}
 
@@ -26,30 +26,20 @@ pub core_rows : (core : Core) (chosen : Reflow) → IsCore core → MayRecord co
     → chosen.rows ≡ core.pool.uber.reflow.rows
 core_rows core chosen is choice = search (rows_of, core_follows, arith)
 
--- While no commit is under way the devices that are out are the pool's own.
-own_out : (core : Core) → IsCore core → core.committing ≡ None → core.pool.out < 2 ^ core.pool.uber.reflow.to
-own_out core is none = search arith
-
 -- The next group may be written with the table as it is.
 pub begins_ready : (core : Core) (chosen : Reflow) → IsCore core → IsTable core.pool.blocks.table
     → core.committing ≡ None
     → (HasTooManyOut core → ⊥) → core.begun + 1 ≤ 2 ^ 62 → MayRecord core.pool.uber.reflow core.pool.done chosen
     → KeepsOrEnds core.pool.uber.reflow chosen → IsReady core.pool chosen
 begins_ready core chosen is table none few limit choice widths =
-    let on = core_follows core chosen is choice in
-    ready core.pool chosen (rests_pool core is none) is.step table on.right widths (omega arith)
-    (own_out core is none) (few_out core few)
-
--- Where a device joins, no sector's standing changes.
-wider_changes_none : (reflow chosen : Reflow) (actor : ℕ) → IsWiderByOne reflow chosen
-    → HasSectors (hold_for reflow chosen actor) → ⊥
-wider_changes_none reflow chosen actor wider some = grind arith
+    ready core.pool chosen (rests_pool core is none) is.step table (core_follows core chosen is choice).right widths
+    (omega arith) (search arith) (few_out core few)
 
 -- The sectors whose standing a commit's choice changes begin below the front, if it changes any.
 pub change_below : (reflow : Reflow) (done : ℕ) (chosen : Reflow) (actor : ℕ) → IsFrontOf reflow done
     → MayRecord reflow done chosen → HasSectors (hold_for reflow chosen actor)
     → (hold_for reflow chosen actor).lo < done
-change_below reflow done chosen actor front may some = search (range_below, wider_changes_none, arith)
+change_below reflow done chosen actor front may some = grind (arith, range_below)
 
 -- A core at which the next group was begun is one.
 pub begun_core : (core : Core) (holds : List Hold) (actor : ℕ) (chosen : Reflow) → IsCore core → core.committing ≡ None
@@ -73,15 +63,10 @@ pub begun_commit : (core : Core) (holds : List Hold) (actor : ℕ) (chosen : Ref
     (commit_of core.pool chosen)
 begun_commit core holds actor chosen is none ready choice takes =
     let may : MayRecord core.pool.uber.reflow core.pool.done chosen = Chooses core.holds choice in
-    record {
-      actor = actor;
-      under_way = refl;
-      number = search rests;
-      next = search (may, ready, arith);
-      holds = search (alone_begins, change_below, is.shared, choice_clear, arith);
-      lists = λ device has. has;
-      reach = search (rows_of, choice_widths, arith);
-    }
+    let held : IsHeldAlone core.pool.done holds (hold_for core.pool.uber.reflow chosen actor) =
+    search (alone_begins, change_below, is.shared, choice_clear, arith) in
+    let wide : core.reach ≡ chosen.to = search (rows_of, choice_widths, arith) in
+    search (rests, ready, arith)
 
 -- A commit begins: what that makes of the core, in its parts.
 module _ (core : Core) (actor : ℕ) (before chosen : Reflow) (is : IsCore core) (table : IsTable core.pool.blocks.table)
@@ -93,9 +78,6 @@ module _ (core : Core) (actor : ℕ) (before chosen : Reflow) (is : IsCore core)
 
   pub begins_may : MayRecord core.pool.uber.reflow core.pool.done chosen
   begins_may = Chooses core.holds its_choice
-
-  its_widths : KeepsOrEnds core.pool.uber.reflow chosen
-  its_widths = search (choice_widths, its_choice, arith)
 
   pub begins_ready_now : IsReady core.pool chosen
   begins_ready_now = begins_ready core chosen is table none few (omega arith) begins_may
@@ -121,5 +103,5 @@ module _ (core : Core) (actor : ℕ) (before chosen : Reflow) (is : IsCore core)
           → run ≡ record { uber = next; entries = index; calls = plan_of next.reflow.to next.count; stage = Lays }
           → BeginsCommitSo core (record core { holds = holds; begun = core.begun + 1; committing = Some actor }) actor
           run
-      begins_so holds index run takes index_is run_is = search
-          (next_for, its_choice, begun_commit, begins_ready_now, arith)
+      begins_so holds index run takes index_is run_is =
+          search (next_for, its_choice, begun_commit, begins_ready_now, arith)

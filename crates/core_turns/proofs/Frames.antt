@@ -39,15 +39,13 @@ pub off_nowhere : (reflow : Reflow) (done : ℕ) (layout : Layout) → IsOff Now
 off_nowhere reflow done layout = search
 
 pub call_off_nowhere : (reflow : Reflow) (done : ℕ) (call : HoldingCall) → IsCallOff Nowhere reflow done call
-call_off_nowhere reflow done (Putting run) = off_nowhere reflow done run.range.layout
-call_off_nowhere reflow done (Reading run) = off_nowhere reflow done run.read.layout
-call_off_nowhere reflow done (Copying run) = search
+call_off_nowhere reflow done call = grind arith
 
 -- and off another's writes is each that has no sector in common with it.
 pub off_written : (reflow : Reflow) (done : ℕ) (layout other : Layout) (out : ℕ) → IsFrontOf reflow done
     → IsInPool layout reflow → IsInPool other reflow → AreClear (layout_run layout) (layout_run other)
     → IsOff (IsWrittenTo layout reflow done out) reflow done other
-off_written reflow done layout other out front pool other_pool clear = search (never_both, reflow, done, front)
+off_written reflow done layout other out front pool other_pool clear = search (never_both, reflow, front)
 
 -- ---- what turns leave
 
@@ -102,17 +100,16 @@ pub put_stays : (P : ℕ → ℕ → Type 0) (content : List ℕ) (before after 
     → HoldsPut content before run → HoldsPut content after run
 put_stays P content before after run leaves off holds =
     let layout = run.range.layout in
-    let reflow = before.core.pool.uber.reflow in
-    let done = before.core.pool.done in
+    let old = before.core.pool in
     record {
       len_is = holds.len_is;
       are_bytes = holds.are_bytes;
       so_far = λ filled is. let was = holds.so_far filled is in (
         was.0,
-        rw (leaves.reflow, leaves.done) (written_stays layout content reflow done before.disk.reads after.disk.reads
-            before.core.pool.out after.core.pool.out filled.write leaves.within
+        rw (leaves.reflow, leaves.done) (written_stays layout content old.uber.reflow old.done before.disk.reads
+            after.disk.reads old.out after.core.pool.out filled.write leaves.within
             (λ write has used.
-            let cell = written_cell layout content reflow done filled.write write was.1.plan has in
+            let cell = written_cell layout content old.uber.reflow old.done filled.write write was.1.plan has in
             leaves.reads write.device write.device_sector used (search required_data) (search)) was.1),
       );
     }
@@ -172,13 +169,11 @@ pub call_of_stays : (old new : Core) (call : HoldingCall) → KeepsCalls old new
     → IsCallOfCore old call → IsCallOfCore new call
 call_of_stays old new (Putting run) keeps listed of = search put_of_stays
 call_of_stays old new (Reading run) keeps listed of = search get_of_stays
-call_of_stays old new (Copying run) keeps listed of = job_of_stays old new run keeps listed of
+call_of_stays old new (Copying run) keeps listed of = search job_of_stays
 
 -- The hold of a call is there,
 pub hold_listed : (core : Core) (call : HoldingCall) → IsCallOfCore core call → Contains core.holds (hold_of_call call)
-hold_listed core (Putting run) of = of.holds
-hold_listed core (Reading run) of = of.1.holds
-hold_listed core (Copying run) of = of.holds
+hold_listed core call of = grind arith
 
 -- also once that of another actor has ended.
 pub ends_other : (old new : List Hold) (gone hold : Hold) → EndsHold old new gone → Contains old hold

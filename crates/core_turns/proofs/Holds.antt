@@ -1,6 +1,6 @@
 -- The holds of a core, of which those held alone below the front are at most one, that of its commit, and those from it
 -- on at most one, that of its job.
-use Rattle.core_turns.proofs.Words.{◌≡◌, inl, inr, ⊎_elim, ℕ, ◌+◌, ◌<◌, ◌≤◌, Bool, List, [], ◌∷◌, ◌++◌, sym, ◌∙◌, ap, arith, Contains, cond, count_by, nat_tests, sum_by-append, sum_by-cons, Hold, Exclusive, Shared, EndsHold, HasSectors, Overlaps, IsClear, exclusive_count, is_exclusive, contains_cases, contains_none, gains_cases, gains_item, gains_old, HasNoShared, alone_below, is_alone_below, DropsHold, IsHeldAlone, TakesHold}
+use Rattle.core_turns.proofs.Words.{◌≡◌, inl, inr, ⊎_elim, ℕ, ◌+◌, ◌<◌, ◌≤◌, Bool, List, [], ◌∷◌, ◌++◌, ◌∙◌, ap, arith, Contains, cond, count_by, nat_tests, sum_by-append, sum_by-cons, Hold, Exclusive, Shared, EndsHold, HasSectors, Overlaps, IsClear, exclusive_count, is_exclusive, contains_cases, contains_none, gains_cases, gains_item, gains_old, HasNoShared, alone_below, is_alone_below, DropsHold, IsHeldAlone, TakesHold}
 use Rattle.range_locks.specs.Gaining.{Gains}
 
 -- ---- how many pass a test
@@ -57,8 +57,7 @@ shared_gained old new hold shared gains = record {
 -- or ends.
 pub shared_ended : (old new : List Hold) (hold : Hold) → hold.kind ≡ Shared → EndsHold old new hold → SameAlone old new
 shared_ended old new hold shared ends =
-    let was = shared_gained new old hold shared (gains_ended old new hold ends) in
-    record { all = cc; below = λ front. sym (was.below front) }
+    let was = shared_gained new old hold shared (gains_ended old new hold ends) in search (was.below, arith)
 
 -- Where none is counted each hold that is alone begins at the front or above it.
 pub none_below : (front : ℕ) (holds : List Hold) → alone_below front holds ≡ 0 → (hold : Hold) → Contains holds hold
@@ -93,8 +92,7 @@ none_shared old new item hold gains apart clear other listed shared some overlap
 
 -- Whoever is not the one that ended stays.
 pub ends_stays : (old new : List Hold) (gone hold : Hold) → EndsHold old new gone → (gone ≡ hold → ⊥)
-    → Contains old hold
-    → Contains new hold
+    → Contains old hold → Contains new hold
 ends_stays old new gone hold ends apart listed = ⊎_elim (λ same. absurd (apart same)) (λ there. there)
     (gains_cases new old gone hold (gains_ended old new gone ends) listed)
 
@@ -143,9 +141,9 @@ alone_passes front next old new gone hold exclusive alone high on same ends hold
 -- Once it has ended nobody holds sectors below the front alone,
 pub alone_ends : (front : ℕ) (old new : List Hold) (hold : Hold) → hold.kind ≡ Exclusive
     → IsHeldAlone front old hold → DropsHold old new hold → alone_below front new ≡ 0
-alone_ends front old new hold exclusive holds drops = ⊎_elim
-    (λ dropped. let less = count_ended (is_alone_below front) old new hold dropped.1 in search arith)
-    (search arith) drops
+alone_ends front old new hold exclusive holds (inl dropped) =
+    let less = count_ended (is_alone_below front) old new hold dropped.1 in search arith
+alone_ends front old new hold exclusive holds (inr empty) = search arith
 
 -- as many hold sectors from it on,
 pub others_end : (front jobs : ℕ) (old new : List Hold) (hold : Hold) → hold.kind ≡ Exclusive

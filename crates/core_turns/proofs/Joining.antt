@@ -2,7 +2,6 @@
 use Rattle.core_turns.proofs.Words.{◌≡◌, ℕ, ◌+◌, ◌<◌, List, [], ◌∷◌, Some, refl, arith, pow-le-pow_right, true≢false, Disk, Reflow, IsRightUber, IsWiderByOne, MayRecord, Widens, choice_still, Map, Kept, Setting, point_of, CommitRun, IsWithin, IsLaidDown, MayWiden, widened_kept, widened_run, widened_uber, commit_widened, widened_right, Core, HasBankOf, IsCore, at_disk, IsCommitOf, IsHeldAlone, hold_for, CommitStands, HoldingCall, Stands}
 use Rattle.core_state.proofs.Fresh.{none_in}
 use Rattle.core_turns.proofs.Frames.{calls_hold_on}
-use Rattle.core_turns.proofs.StandFrames.{one_group}
 
 -- With one device more no sector's standing changes, as where the reflow stays.
 wider_holds : (reflow : Reflow) (actor : ℕ)
@@ -54,7 +53,7 @@ pub joined_stands : {setting : Setting} {last next : Kept} {map : Map} {contents
     (Some (widened_run run)) (at_disk (record core { reach = core.reach + 1 }) disk)
 joined_stands {setting} {last} {next} {map} {contents} {calls} core run disk is rest laid may bank stands =
     let was = stands.groups in
-    let its : was.next ≡ next = one_group (cc) in
+    let its : was.next ≡ next = cc (was.begun_is) in
     let come = rw its at was.come in
     let groups : CommitStands (record setting { reach = setting.reach + 1 }) last (widened_kept next ∷ []) calls
     (widened_run run) (at_disk (record core { reach = core.reach + 1 }) disk) = record {

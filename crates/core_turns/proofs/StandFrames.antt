@@ -1,5 +1,5 @@
 -- What a turn leaves of the map, of the groups, and of all that stands.
-use Rattle.core_turns.proofs.Words.{◌≡◌, ℕ, ◌≤◌, List, [], ◌∷◌, Option, Some, None, refl, ◌∙◌, ap, arith, Contains, Disk, Lawful, Later, Unchanged, tells_later, IndexEntry, IsWithin, Map, layout_of, Kept, Setting, KeepsSince, Nowhere, none_lost, unchanged_frames, knows_frame, might_at, MayRecord, IsListed, OnlyFailedGoOut, point_of, IsRightBlock, CommitRun, committing_unchanged, HoldsMap, bank_later, count_grows, block_stays, Core, CoreState, pool_at, IsHeldAlone, IsCommitOf, hold_for, HoldingCall, actor_of, HoldsCall, LiesInPool, PutsSpare, GroupsStand, Stands}
+use Rattle.core_turns.proofs.Words.{◌≡◌, ℕ, ◌≤◌, List, Option, Some, None, refl, ◌∙◌, arith, Contains, Disk, Lawful, Later, Unchanged, tells_later, IndexEntry, IsWithin, Map, layout_of, Kept, Setting, KeepsSince, Nowhere, none_lost, unchanged_frames, knows_frame, might_at, IsListed, OnlyFailedGoOut, point_of, IsRightBlock, CommitRun, committing_unchanged, HoldsMap, bank_later, count_grows, block_stays, Core, CoreState, pool_at, IsCommitOf, hold_for, HoldingCall, actor_of, HoldsCall, LiesInPool, PutsSpare, GroupsStand, CommitStands, IsCommitting, Stands}
 use Rattle.core_turns.proofs.Beside.{required_data}
 use Rattle.core_turns.proofs.Holds.{KeepsAlone, keeps_same}
 use Rattle.core_turns.proofs.Frames.{Leaves, AreOff, IsCallOff, OnlyOut, call_stays}
@@ -21,15 +21,10 @@ map_stays P map before after leaves table off holds = search (right, arith)
         before.core.pool.uber.reflow before.core.pool.done before.disk.reads after.disk.reads before.core.pool.out
         after.core.pool.out leaves.within
         (λ cell device device_sector is place used read. leaves.reads device device_sector used
-        (required_data before.core.pool.uber.reflow before.core.pool.done cell.row_end cell.sector device device_sector
-        leaves.front place) (off entry listed content cell device device_sector is place) ∙ read)
+        (search (required_data, leaves.front)) (off entry listed content cell device device_sector is place) ∙ read)
         (holds.right entry content listed has))
 
 -- ---- the groups
-
--- Where one group was begun it is that one.
-pub one_group : {one other : Kept} → one ∷ [] ≡ other ∷ [] → one ≡ other
-one_group same = cc
 
 -- What a turn leaves of the commit under way: the pool's uberblock and front, the group begun last and who makes it, and
 -- what it holds. Devices go out.
@@ -45,17 +40,13 @@ pub record LeavesCommit (old new : Core) : Type 0 where
 -- So it is one of the core still.
 pub commit_still : {run : CommitRun} (old new : Core) → LeavesCommit old new → IsCommitOf old run → IsCommitOf new run
 commit_still {run} old new leaves of =
-    let choice : MayRecord new.pool.uber.reflow new.pool.done run.uber.reflow = rw (leaves.uber, leaves.done)
-    of.next.choice in
-    let holds : IsHeldAlone new.pool.done new.holds (hold_for new.pool.uber.reflow run.uber.reflow of.actor) =
-    rw (leaves.uber, leaves.done)
-    (leaves.holds (hold_for old.pool.uber.reflow run.uber.reflow of.actor) refl of.holds) in
+    let hold = hold_for old.pool.uber.reflow run.uber.reflow of.actor in
     record {
       actor = of.actor;
       under_way = cc;
       number = cc;
-      next = search arith;
-      holds = holds;
+      next = search (leaves.uber, leaves.done, arith);
+      holds = rw (leaves.uber, leaves.done) (leaves.holds hold refl of.holds);
       lists = search arith;
       reach = cc;
     }
@@ -79,6 +70,17 @@ lawful_before {old} {new} same lawful =
       stays_could = λ d x bytes other is has. lawful.stays_could d x bytes other (leaves d x ∙ is) (search could);
     }
 
+-- The group of a commit stands still where only devices went out, as far as the commit has come.
+pub group_still : {setting : Setting} {last : Kept} {begun : List Kept} {calls : List HoldingCall}
+    {run next : CommitRun} (before after : CoreState) (was : CommitStands setting last begun calls run before)
+    → OnlyOut before.core after.core → IsCommitOf after.core next
+    → IsCommitting setting last was.next next (point_of after.core.pool.out after.disk)
+    → CommitStands setting last begun calls next after
+group_still {calls = calls} before after was core of come =
+    let spared : PutsSpare after calls was.next = λ put has. rw core (was.spared put has) in
+    let lies : LiesInPool after.core was.next = rw core (search was.lies) in
+    search (come, arith)
+
 -- The groups stand still where devices were read,
 pub groups_read : (setting : Setting) (last : Kept) (begun : List Kept) (calls : List HoldingCall)
     (commit : Option CommitRun)
@@ -92,16 +94,7 @@ groups_read setting last begun calls None before after core same outs lawful gro
   whole = search (count_grows, arith);
 }
 groups_read setting last begun calls (Some run) before after core same outs lawful groups =
-    let leaves = out_leaves before.core after.core core outs.still in
-    record {
-      next = groups.next;
-      begun_is = groups.begun_is;
-      of = search commit_still;
-      come = search committing_unchanged;
-      lies = search lies_still;
-      kept = search arith;
-      spared = λ run listed. rw core (groups.spared run listed);
-    }
+    group_still before after groups core (search (commit_still, out_leaves, outs.still)) (search committing_unchanged)
 
 -- and each image since a moment keeps what it kept: no moment is new.
 pub since_read : (setting : Setting) (groups : List Kept) (time : ℕ) (old new : Disk) → Unchanged old new
@@ -133,8 +126,7 @@ module _ {setting : Setting} {last : Kept} {begun : List Kept} {map : Map} where
       → GroupsStand setting last begun nexts next after → PutsSpare after nexts last
       → ((call : HoldingCall) → Contains nexts call → HoldsCall after (nows (actor_of call)) call)
       → Stands setting last begun map contents calls commit before → Stands setting last begun map nows nexts next after
-  stands_anew P before after leaves off core = stands_still P before after leaves off
-      (ap (λ (c : Core). c.pool.uber) core) (cc) (ap (λ (c : Core). c.pool.blocks) core)
+  stands_anew P before after leaves off core = stands_still P before after leaves off (rw core) (rw core) (rw core)
 
   -- What stands, over a turn that is none of these calls', as a step of a commit.
   pub stands_frame : {contents : ℕ → List ℕ} {calls : List HoldingCall} {commit next : Option CommitRun}
@@ -145,7 +137,5 @@ module _ {setting : Setting} {last : Kept} {begun : List Kept} {map : Map} where
       → GroupsStand setting last begun calls next after → Stands setting last begun map contents calls commit before
       → Stands setting last begun map contents calls next after
   stands_frame {contents = contents} P before after leaves calls_off off core later groups stands =
-      stands_anew P before after leaves off core later groups
-      (λ run listed. rw core (stands.spared run listed))
-      (λ call listed. call_stays P (contents (actor_of call)) before after call leaves (calls_off call listed)
-      (stands.each call listed)) stands
+      stands_anew P before after leaves off core later groups (λ run listed. rw core (stands.spared run listed))
+      (λ call listed. search (call_stays, calls_off, stands.each)) stands
