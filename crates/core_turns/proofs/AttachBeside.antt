@@ -53,7 +53,4 @@ attach_beside {setting} {last} {begun} {map} {contents} {calls} before after (Jo
     before.disk after join.guest (search (touched_leaves, reach_is, arith)) holds.4 in
     (holds.0, holds.1, holds.2, holds.3, guest)
 attach_beside before after (Signs run because) of its touched stands holds = tt
-attach_beside before after (Reads ring) of its touched stands holds =
-    read_beside before.disk after ring (search arith) holds
-attach_beside before after (Checked ring) of its touched stands holds =
-    read_beside before.disk after ring (search arith) holds
+attach_beside before after other of its touched stands holds = read_beside before.disk after _ (search arith) holds

@@ -1,5 +1,5 @@
 -- What each turn of an attach does to the bank and the devices.
-use Rattle.core_turns.proofs.Words.{◌≡◌, ◌⊎◌, inl, inr, ℕ, ◌+◌, ◌<◌, Some, None, TouchesOnly, arith, true≢false, cases_lt, Disk, Lawful, Unchanged, touches_widen, IsOnInUse, read_touches, unchanged_none, bank_later, JoinStep, JoinRun, join_spares, AttachRun, Reads, Checked, Joins, Signs, Turn, More, Done, Core, CoreState, HasBankOf, IsCore, at_disk, HasTooManyOut, TurnGoesOn, AttachGoesOn, HasNewDevice, IsAttachCommit, IsAttachRunOf, MayReachOn, StepsAttach, StepsJoin, StopsAttach}
+use Rattle.core_turns.proofs.Words.{◌≡◌, ◌⊎◌, inl, inr, ℕ, ◌+◌, ◌<◌, Some, None, arith, true≢false, cases_lt, Disk, Lawful, Unchanged, touches_widen, IsOnInUse, read_touches, unchanged_none, bank_later, JoinStep, JoinRun, join_spares, AttachRun, Reads, Checked, Joins, Signs, Turn, More, Done, Core, CoreState, HasBankOf, IsCore, at_disk, HasTooManyOut, TurnGoesOn, AttachGoesOn, HasNewDevice, IsAttachCommit, IsAttachRunOf, MayReachOn, StepsAttach, StepsJoin, StopsAttach}
 use Rattle.core_state.specs.declared.answer.Answer.TheVariants as answer
 use Rattle.join_commit.specs.declared.join_run.JoinStep.TheVariants as step
 use Rattle.core_turns.proofs.AttachTurns.{join_outs, join_touches}
@@ -8,8 +8,7 @@ use Rattle.core_turns.proofs.CommitGoes.{commit_goes}
 -- As others' turns do.
 pub as_attach : (before after : CoreState) → TurnGoesOn before after → AttachGoesOn before after
 as_attach before after goes =
-    let only : TouchesOnly (IsOnInUse (before.core.reach + 1) before.core.pool.out) before.disk after.disk =
-    touches_widen (IsOnInUse before.core.reach before.core.pool.out)
+    let only = touches_widen (IsOnInUse before.core.reach before.core.pool.out)
     (IsOnInUse (before.core.reach + 1) before.core.pool.out) (search arith) goes.only in
     search arith
 
@@ -48,19 +47,16 @@ attach_goes before after (Reads ring) (More (Reads next)) is lawful of steps =
     looked before after (cc) (cc) steps.unchanged
 attach_goes before after (Reads ring) (More (Checked next)) is lawful of steps =
     looked before after (rw steps.core) (rw steps.core) steps.unchanged
-attach_goes before after (Reads ring) (Done given) is lawful of steps = stopped before after steps.0
 attach_goes before after (Checked ring) (More (Checked next)) is lawful of steps =
     none_called before after (cc) (cc) (cc)
 attach_goes before after (Checked ring) (More (Joins join)) is lawful of steps =
     none_called before after (cc) (cc) steps.disk
-attach_goes before after (Checked ring) (Done given) is lawful of steps = stopped before after steps.0
 attach_goes before after (Joins join) (More (Joins next)) is lawful of steps =
     joining before after join (step.GoesOn next) is lawful of.0 of.1 steps.0 (rw steps.1) (inl (rw steps.1))
 attach_goes before after (Joins join) (More (Signs run None)) is lawful of steps =
     joining before after join (step.Joined run) is lawful of.0 of.1 steps.0 (rw steps.1) (inr (rw steps.1))
 attach_goes before after (Joins join) (More (Signs run (Some because))) is lawful of steps =
     joining before after join (step.Dropped run because) is lawful of.0 of.1 steps.0 (rw steps.1) (inl (rw steps.1))
-attach_goes before after (Joins join) (Done given) is lawful of steps = stopped before after steps.0
 attach_goes before after (Signs run because) (More (Signs next same)) is lawful of steps =
     as_attach before after (commit_goes before after run (More next) is lawful of.0.of steps.1)
 attach_goes before after (Signs run because) (Done given) is lawful of (inl stops) = stopped before after stops.0
@@ -68,6 +64,7 @@ attach_goes before after (Signs run because) (Done given) is lawful of (inr ends
     let goes = as_attach before ends.answered (commit_goes before ends.answered run
     (Done (answer.Synced before.core.begun)) is lawful of.0.of ends.answers) in
     search arith
+attach_goes before after run (Done given) is lawful of steps = stopped before after steps.0
 attach_goes before after run turn is lawful of steps = absurd steps
 
 -- The bank goes on having what is in use, and a device that joined.

@@ -65,14 +65,11 @@ module _ {setting : Setting} {last : Kept} {begun : List Kept} {map : Map} {cont
     abbrev wider : Setting
     wider = record setting { reach = setting.reach + 1 }
 
-    abbrev reached : CoreState
-    reached = at_disk (reaching_on before.core) before.disk
-
     widens : MayWiden setting last stands.groups.next old
     widens = search (rw did.steps.synced at its.guest)
 
     stood : Stands wider last (widened_kept stands.groups.next ∷ []) map contents calls
-        (Some (widened_run join.run)) reached
+        (Some (widened_run join.run)) (at_disk (reaching_on before.core) before.disk)
     stood = search (joined_stands, widens)
 
     its_core : IsCore (reaching_on before.core)
@@ -83,14 +80,14 @@ module _ {setting : Setting} {last : Kept} {begun : List Kept} {map : Map} {cont
 
     pub join_joins_stands : IsWithin before.core.pool.out setting.failed
         → Stands wider last (widened_kept stands.groups.next ∷ []) map contents calls (Some run) after
-    join_joins_stands within = commit_moves_stands its_core within stood after run did.steps.result did.steps.steps core
-        of
+    join_joins_stands within =
+        commit_moves_stands its_core within stood after run did.steps.result did.steps.steps core of
 
     pub join_joins_since : IsWithin before.core.pool.out setting.failed → (groups : List Kept) (time : ℕ)
         → IsRowOf groups last (shown_of (widened_kept stands.groups.next ∷ []) (Some run))
         → KeepsSince wider groups time before.disk → KeepsSince wider groups time after.disk
-    join_joins_since within = commit_moves_since its_core within stood after run did.steps.result did.steps.steps core
-        of
+    join_joins_since within =
+        commit_moves_since its_core within stood after run did.steps.result did.steps.steps core of
 
 -- ---- its end
 

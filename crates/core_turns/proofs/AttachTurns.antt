@@ -99,14 +99,10 @@ module _ (core : Core) (join : JoinRun) (out : ℕ) (old new : Disk) (is : IsCor
   kept : join.run.uber.reflow ≡ core.pool.uber.reflow
   kept = search rest_records
 
-  still_reach : {other : CommitRun} → IsCommitOf (with_out core out) other
-      → other.uber.reflow.to ≡ join.run.uber.reflow.to
-  still_reach its = cc
-
   pub join_goes_more : (next : JoinRun) → core.attaching ≡ core.committing → join.run.uber.reflow.to < old.devices
       → JoinSteps join before (step.GoesOn next) after
       → IsAttachRunOf (with_out core out) (Joins next) × HasNewDevice new (Joins next)
-  join_goes_more next attaching there did = search (join_goes_commit, still_reach, join_spares, arith)
+  join_goes_more next attaching there did = search (join_goes_commit, join_spares, arith)
 
   pub join_drops_more : (run : CommitRun) (because : WhyDropped) → core.attaching ≡ core.committing
       → JoinSteps join before (step.Dropped run because) after

@@ -13,7 +13,7 @@ spare_table : (core : Core) (calls : List HoldingCall) (run : PutRun) → AreCal
     → IsIndex core.pool.blocks.table.entries → Contains calls (Putting run)
     → SparesAll core.pool.blocks.parity core.pool.blocks.births core.pool.blocks.table.entries (put_run run.range)
 spare_table core calls run are index has entry listed =
-    (are.under.each run.range (range_listed calls run has)).clear entry (search (among_listed, listed))
+    let under = are.under.each run.range (range_listed calls run has) in search (under.clear, among_listed)
 
 -- ---- a commit begins
 
@@ -37,12 +37,9 @@ commit_begins_stands {setting} {last} {begun} {map} {contents} {calls} {old} {ne
     chosen : Reflow
     chosen = run.uber.reflow
 
-    entries : List IndexEntry
-    entries = old.pool.blocks.table.entries
-
     -- the group that is made
     next : Kept
-    next = record { uber = uber_for old.pool chosen; entries = entries; map = map }
+    next = record { uber = uber_for old.pool chosen; entries = old.pool.blocks.table.entries; map = map }
 
     -- the core once it is begun
     begun_core : Core
@@ -63,18 +60,15 @@ commit_begins_stands {setting} {last} {begun} {map} {contents} {calls} {old} {ne
     come : IsCommitting setting last next (commit_of old.pool chosen) (point_of old.pool.out disk)
     come = committing_begins setting [] last next (point_of old.pool.out disk) is_ready.right lawful
         (may_commit setting last map (pool_at (at_disk old disk)) (rests_pool old is begins.none)
-        (bank_within old disk is alone.bank) (search alone) alone.holds chosen
-        (core_follows old chosen is may) widths is.step
-        is_ready [])
+        (bank_within old disk is alone.bank) (search alone) alone.holds chosen (core_follows old chosen is may) widths
+        is.step is_ready [])
 
-    -- Its blocks are those of the table.
-    listed : (entry : IndexEntry) → Contains entries entry → IsListed entries entry
-    listed entry has = among_listed entries entry table.index has
-
-    -- The commit has begun, and the rest stands as it did.
+    -- The commit has begun, its blocks are those of the table, and the rest stands as it did.
     now : Stands setting last (next ∷ []) map contents calls (Some (commit_of old.pool chosen))
         (at_disk begun_core disk)
     now =
+        let listed : (entry : IndexEntry) → Contains next.entries entry → IsListed next.entries entry =
+        λ entry has. among_listed next.entries entry table.index has in
         let groups : CommitStands setting last (next ∷ []) calls (commit_of old.pool chosen) (at_disk begun_core disk) =
         record {
           next = next;
@@ -128,13 +122,11 @@ module _ {setting : Setting} {last : Kept} {begun : List Kept} {map : Map} {cont
         → KeepsSince setting groups time before.disk → KeepsSince setting groups time after.disk
     commit_moves_since groups time row = moved result steps
       where
-        shown : IsRowOf groups last (shown_by stands.groups.next next)
-        shown = search (shown_one, arith)
-
         moved : (result : CommitStep) → CommitSteps run old next new result → KeepsSince setting groups time before.disk
             → KeepsSince setting groups time after.disk
         moved Called steps kept = since_more setting groups time last (shown_by stands.groups.next next) before.disk
-            after.disk shown (search goes_on) (committing_knows setting last stands.groups.next next new come_on) kept
+            after.disk (search (shown_one, arith)) (search goes_on)
+            (committing_knows setting last stands.groups.next next new come_on) kept
         moved Ended steps kept = subst (λ (p : Point). KeepsSince setting groups time p.disk) (sym steps.same) kept
 
 -- A call of it in a turn of its own.

@@ -76,11 +76,8 @@ module _ (core : Core) (actor : ℕ) (before chosen : Reflow) (is : IsCore core)
   its_choice : IsCommitChoice core.pool.uber.reflow core.pool.done core.holds chosen
   its_choice = search arith
 
-  pub begins_may : MayRecord core.pool.uber.reflow core.pool.done chosen
-  begins_may = Chooses core.holds its_choice
-
   pub begins_ready_now : IsReady core.pool chosen
-  begins_ready_now = begins_ready core chosen is table none few (omega arith) begins_may
+  begins_ready_now = begins_ready core chosen is table none few (omega arith) (Chooses core.holds its_choice)
       (search (choice_widths, its_choice, arith))
 
   -- The sectors whose standing changes are clear to be held alone.

@@ -5,8 +5,8 @@ use Rattle.core_turns.proofs.GetLaws.{get_stays}
 use Rattle.core_turns.proofs.Holds.{ends_stays}
 use Rattle.core_turns.proofs.JobLaws.{IsJobOff, job_leaves, none_before}
 
--- What a turn leaves: the pool's widths and its front stay, no device comes back, and on those in use each data sector that is
--- none of these reads what it read.
+-- What a turn leaves: the pool's widths and its front stay, no device comes back, and on those in use each data sector
+-- that is none of these reads what it read.
 pub record Leaves (P : ℕ → ℕ → Type 0) (before after : CoreState) : Type 0 where
   pub parity : after.core.pool.uber.parity ≡ before.core.pool.uber.parity
   pub births : after.core.pool.uber.births ≡ before.core.pool.uber.births

@@ -82,7 +82,7 @@ below_all front holds = count_fewer (is_alone_below front) alone holds (λ hold.
 
 -- ---- the hold of a commit
 
--- A range that nobody shares nobody shares where a hold comes that is not shared, or clear of it.
+-- Nobody shares a range where a hold comes that is not shared, or clear of it.
 none_shared : (old new : List Hold) (item hold : Hold) → Gains old new item
     → (item.kind ≡ Shared → HasSectors hold → Overlaps item hold.lo hold.hi → ⊥) → HasNoShared old (hold.lo, hold.hi)
     → HasNoShared new (hold.lo, hold.hi)
@@ -90,26 +90,62 @@ none_shared old new item hold gains apart clear other listed shared some overlap
     (λ (same : item ≡ other). apart (ap (λ (h : Hold). h.kind) same ∙ shared) some (rw (← same) at overlaps))
     (λ was. clear other was shared some overlaps) (gains_cases old new item other gains listed)
 
--- Whoever is not the one that ended stays.
+-- A hold that is not the one that ended stays.
 pub ends_stays : (old new : List Hold) (gone hold : Hold) → EndsHold old new gone → (gone ≡ hold → ⊥)
     → Contains old hold → Contains new hold
 ends_stays old new gone hold ends apart listed = ⊎_elim (λ same. absurd (apart same)) (λ there. there)
     (gains_cases new old gone hold (gains_ended old new gone ends) listed)
 
--- A range below the front that nobody shares, where nobody holds sectors below it alone, is held so by a commit, if it has
--- a sector.
-pub alone_begins : (front : ℕ) (old new : List Hold) (hold : Hold) → hold.kind ≡ Exclusive
-    → (HasSectors hold → hold.lo < front) → alone_below front old ≡ 0 → HasNoShared old (hold.lo, hold.hi)
-    → TakesHold old new hold → IsHeldAlone front new hold
-alone_begins front old new hold exclusive low none clear (inl taken) =
-    let more = count_gained (is_alone_below front) old new hold taken.1 in
-    let begins = low taken.0 in
-    record {
-      low = low;
-      held = inl (taken.0, gains_item old new hold taken.1, grind (arith, nat_tests));
-      clear = none_shared old new hold hold taken.1 (λ shared some overlaps. cc) clear;
-    }
-alone_begins front old new hold exclusive low none clear (inr empty) = search arith
+module _ (front : ℕ) (old new : List Hold) (hold : Hold) (exclusive : hold.kind ≡ Exclusive) where
+  -- A range below the front that nobody shares, where nobody holds sectors below it alone, is held so by a commit, if it
+  -- has a sector.
+  pub alone_begins : (HasSectors hold → hold.lo < front) → alone_below front old ≡ 0
+      → HasNoShared old (hold.lo, hold.hi) → TakesHold old new hold → IsHeldAlone front new hold
+  alone_begins low none clear (inl taken) =
+      let more = count_gained (is_alone_below front) old new hold taken.1 in
+      let begins = low taken.0 in
+      record {
+        low = low;
+        held = inl (taken.0, gains_item old new hold taken.1, grind (arith, nat_tests));
+        clear = none_shared old new hold hold taken.1 (λ shared some overlaps. cc) clear;
+      }
+  alone_begins low none clear (inr empty) = search arith
+
+  -- As many are alone from the front on when it is taken.
+  pub taken_count : (jobs : ℕ) → (HasSectors hold → hold.lo < front) → TakesHold old new hold
+      → exclusive_count old ≡ alone_below front old + jobs → exclusive_count new ≡ alone_below front new + jobs
+  taken_count jobs low (inl taken) counted =
+      let all = count_gained alone old new hold taken.1 in
+      let below = count_gained (is_alone_below front) old new hold taken.1 in
+      let begins = low taken.0 in
+      grind (arith, nat_tests)
+  taken_count jobs low (inr empty) counted = search arith
+
+  -- Once it has ended nobody holds sectors below the front alone,
+  pub alone_ends : IsHeldAlone front old hold → DropsHold old new hold → alone_below front new ≡ 0
+  alone_ends holds (inl dropped) =
+      let less = count_ended (is_alone_below front) old new hold dropped.1 in search arith
+  alone_ends holds (inr empty) = search arith
+
+  -- and as many hold sectors from it on.
+  pub others_end : (jobs : ℕ) → IsHeldAlone front old hold → DropsHold old new hold
+      → exclusive_count old ≡ alone_below front old + jobs → exclusive_count new ≡ jobs
+  others_end jobs holds (inl dropped) counted =
+      let less = count_ended alone old new hold dropped.1 in search arith
+  others_end jobs holds (inr empty) counted =
+      let same = ap exclusive_count empty.1 in search (same, arith)
+
+-- All others are there when it has ended,
+pub others_stay : (old new : List Hold) (hold other : Hold) → DropsHold old new hold → (hold ≡ other → ⊥)
+    → Contains old other → Contains new other
+others_stay old new hold other (inl dropped) apart listed = search ends_stays
+others_stay old new hold other (inr none) apart listed = search arith
+
+-- and all when it is taken.
+pub taken_has : (old new : List Hold) (hold other : Hold) → TakesHold old new hold → Contains old other
+    → Contains new other
+taken_has old new hold other (inl taken) = search gains_old
+taken_has old new hold other (inr none) = search arith
 
 -- It is held still where the front goes no lower, as many are alone below it, its hold stays, and nobody shares it.
 alone_stays : {front next : ℕ} {old new : List Hold} {hold : Hold} → front ≤ next
@@ -137,44 +173,6 @@ pub alone_passes : (front next : ℕ) (old new : List Hold) (gone hold : Hold) �
 alone_passes front next old new gone hold exclusive alone high on same ends holds = alone_stays on same
     (λ some. let low = holds.low some in ends_stays old new gone hold ends (λ is. grind arith))
     (λ other listed. holds.clear other (search (gains_old, gains_ended))) holds
-
--- Once it has ended nobody holds sectors below the front alone,
-pub alone_ends : (front : ℕ) (old new : List Hold) (hold : Hold) → hold.kind ≡ Exclusive
-    → IsHeldAlone front old hold → DropsHold old new hold → alone_below front new ≡ 0
-alone_ends front old new hold exclusive holds (inl dropped) =
-    let less = count_ended (is_alone_below front) old new hold dropped.1 in search arith
-alone_ends front old new hold exclusive holds (inr empty) = search arith
-
--- as many hold sectors from it on,
-pub others_end : (front jobs : ℕ) (old new : List Hold) (hold : Hold) → hold.kind ≡ Exclusive
-    → IsHeldAlone front old hold → DropsHold old new hold
-    → exclusive_count old ≡ alone_below front old + jobs → exclusive_count new ≡ jobs
-others_end front jobs old new hold exclusive holds drops counted = ⊎_elim
-    (λ dropped. let less = count_ended alone old new hold dropped.1 in search arith)
-    (λ empty. let same = ap exclusive_count empty.1 in search (same, arith)) drops
-
--- and the others are there.
-pub others_stay : (old new : List Hold) (hold other : Hold) → DropsHold old new hold → (hold ≡ other → ⊥)
-    → Contains old other → Contains new other
-others_stay old new hold other drops apart listed = ⊎_elim
-    (λ dropped. ends_stays old new hold other dropped.1 apart listed) (search arith) drops
-
--- All are there when it is taken.
-pub taken_has : (old new : List Hold) (hold other : Hold) → TakesHold old new hold → Contains old other
-    → Contains new other
-taken_has old new hold other takes listed = ⊎_elim
-    (λ taken. gains_old old new hold other taken.1 listed) (search arith) takes
-
--- How many are alone when it is taken.
-pub taken_count : (front jobs : ℕ) (old new : List Hold) (hold : Hold) → hold.kind ≡ Exclusive
-    → (HasSectors hold → hold.lo < front) → TakesHold old new hold
-    → exclusive_count old ≡ alone_below front old + jobs → exclusive_count new ≡ alone_below front new + jobs
-taken_count front jobs old new hold exclusive low takes counted = ⊎_elim
-    (λ taken.
-    let all = count_gained alone old new hold taken.1 in
-    let below = count_gained (is_alone_below front) old new hold taken.1 in
-    let begins = low taken.0 in
-    grind (arith, nat_tests)) (search arith) takes
 
 -- ---- the hold of a job
 
