@@ -1,7 +1,7 @@
 -- The commit of an attach begins: its group may be made with the new device, which is free.
 use Rattle.core_turns.proofs.Words.{◌≡◌, ℕ, ◌≤◌, List, [], ◌∷◌, Some, None, sym, ◌∙◌, ap, arith, All-cons, All-nil, Disk, Lawful, Uber, HasReadRing, RingRead, Map, Kept, Setting, IsWidenable, reach_less, Laid, JoinRun, GuestSoFar, free_is_blank, Chooses, KeepsOrEnds, Checked, Joins, Core, CoreState, IsCore, at_disk, BeginsJoining, HasNewDevice, HoldsAttach, IsAttachRunOf, HoldingCall, AreCallsOf, Stands}
 use Rattle.core_turns.proofs.AttachTurns.{rest_records}
-use Rattle.core_turns.proofs.Commits.{few_out, rests}
+use Rattle.core_turns.proofs.Commits.{few_out}
 use Rattle.core_turns.proofs.CommitStands.{commit_begins_stands}
 
 -- ---- how far the pool reaches
@@ -53,11 +53,7 @@ module _ {setting : Setting} {last : Kept} {begun : List Kept} {map : Map} {cont
       ∙ rest_records before.core join.run.uber.reflow is of.0.may reach (Chooses before.core.holds joins.begins.choice)
 
   widenable : IsWidenable narrow last begins.0
-  widenable =
-      let number = rests before.core is joins.begins.none in
-      let begun = ap (λ (c : Core). c.begun) joins.begins.rest in
-      let group = ap (λ (u : Uber). u.group) alone.alike in
-      search (kept, begins.2, alone.shape, there, arith)
+  widenable = search (kept, begins.2, alone.shape, there, arith)
 
   -- The device shows no uberblock, and nothing is laid on it yet.
   guest : GuestSoFar before.disk begins.0 width (Laid 0)

@@ -37,8 +37,8 @@ joining : (before after : CoreState) (join : JoinRun) (result : JoinStep) → Is
     → IsAttachCommit before.core join.run → MayReachOn before.core → StepsJoin before join after result
     → after.core.pool.uber ≡ before.core.pool.uber
     → (after.core.reach ≡ before.core.reach) ⊎ (after.core.reach ≡ before.core.reach + 1) → AttachGoesOn before after
-joining before after join result is lawful commit may did uber reach = search
-    (join_spares, join_outs, join_touches, arith)
+joining before after join result is lawful commit may did uber reach =
+    search (join_spares, join_outs, join_touches, arith)
 
 -- What a turn does, whatever it comes to.
 pub attach_goes : (before after : CoreState) (run : AttachRun) (turn : Turn AttachRun) → IsCore before.core

@@ -19,11 +19,9 @@ pub answered_core : (core : Core) (run : CommitRun) (holds : List Hold) → IsCo
     → IsCore (record core { pool = answered_by run.uber core.pool; holds = holds; committing = None })
 answered_core core run holds is of none jobs =
     let on = core_follows core run.uber.reflow is of.next.choice in
-    let pool = begun_pool core run is of in
     let behind = front_behind core.pool.uber.reflow core.pool.done run.uber.reflow in
     let low = front_no_higher core.pool.uber.reflow core.pool.done run.uber.reflow is.is.front of.next.choice in
     let fewer = below_lower behind core.pool.done holds low in
-    let none_behind : alone_below behind holds ≡ 0 = omega arith in
     search (answered_pool, answered_step, of.reach, arith)
 
 -- What a commit held was its actor's.

@@ -1,6 +1,6 @@
 -- The end of a commit beside the calls that are under way: its group is the last answered one, and each call goes on at
 -- the places at which it began.
-use Rattle.core_turns.proofs.Words.{Contains, ◌≡◌, ℕ, ◌+◌, ◌≤◌, List, [], ◌∷◌, None, Option, Some, ap, IsRightBlock, refl, arith, Disk, Hold, Shared, Reflow, Layout, IndexEntry, IsWithin, Map, layout_of, Kept, Setting, Knows, Point, point_of, range_of_commit, chooses, FollowsOn, IsOutside, front_behind, held_outside, NoneFree, spot_of, IsColumnOf, Ended, CommitRun, HasEnded, IsCommitting, committing_done, committing_steps, GoesOnIn, hold_for_job, MovesMark, choice_moves, answered_by, IsPool, answered_block, answered_in_pool, answered_kept, answered_layout, answered_map, answered_range, answered_spares, answered_under, CopyRun, GetRun, PutRun, Core, IsCore, CoreState, at_disk, HoldsGet, IsGetOf, hold_of, AsksAlike, HoldsPut, IsPutOf, AnswersGroup, DropsHold, IsCommitOf, hold_for, CopiesCells, IsJobOf, HoldingCall, Putting, Reading, Copying, AreCallsOf, HoldsCall, IsCallOfCore, LiesInPool, PutsSpare, Stands}
+use Rattle.core_turns.proofs.Words.{Contains, ◌≡◌, ℕ, ◌+◌, ◌≤◌, List, [], ◌∷◌, None, Option, Some, ap, IsRightBlock, refl, arith, Disk, Hold, Shared, Reflow, Layout, IndexEntry, IsWithin, Map, layout_of, Kept, Setting, Knows, Point, point_of, range_of_commit, chooses, FollowsOn, IsOutside, front_behind, held_outside, NoneFree, spot_of, IsColumnOf, Ended, CommitRun, HasEnded, IsCommitting, committing_done, committing_steps, GoesOnIn, hold_for_job, MovesMark, choice_moves, answered_by, IsPool, answered_block, answered_in_pool, answered_kept, answered_layout, answered_map, answered_range, answered_spares, answered_under, CopyRun, GetRun, PutRun, Core, IsCore, CoreState, at_disk, IsGetOf, hold_of, AsksAlike, IsPutOf, AnswersGroup, DropsHold, IsCommitOf, hold_for, HoldingCall, Putting, Reading, Copying, AreCallsOf, HoldsCall, IsCallOfCore, LiesInPool, PutsSpare, Stands}
 use Rattle.core_turns.proofs.JobBeside.{cells_behind, goes_behind, job_holds_else}
 use Rattle.core_turns.proofs.Commits.{core_follows, core_rows}
 use Rattle.core_turns.proofs.CommitGoes.{commit_stays}
@@ -48,8 +48,7 @@ module _ (core : Core) (run : CommitRun) (is : IsCore core) (of : IsCommitOf cor
   get_outside get its = rw its.layout_is (rw its.hold_is at (outside get.hold its.holds (get_shared core get its)))
 
   -- so a put's block is asked for where it was.
-  put_alike : (put : PutRun) → IsPutOf core put
-      → AsksAlike put.range.layout reflow core.pool.done chosen behind
+  put_alike : (put : PutRun) → IsPutOf core put → AsksAlike put.range.layout reflow core.pool.done chosen behind
   put_alike put its = search (block_alike, put_outside, on.rows)
 
   -- A job goes on: at most the mark has moved.
@@ -71,36 +70,23 @@ module _ (core : Core) (run : CommitRun) (is : IsCore core) (of : IsCommitOf cor
 
     -- ---- the calls
 
-    put_answered : (put : PutRun) → IsPutOf core put → IsPutOf answered put
-    put_answered put its = put_moves core answered put its (put_alike put its)
+    call_answered : (call : HoldingCall) → IsCallOfCore core call → IsCallOfCore answered call
+    call_answered (Putting put) its = put_moves core answered put its (put_alike put its)
         (search (answered_in_pool, pool, on)) on.front
         (answered_range core.pool run.uber pool is.step of.next on put.range.id put.len put.range.birth put.range
         (search arith) its.range) its.born.1 (search (still_held, put_shared))
-
-    get_answered : (get : GetRun) → IsGetOf core get → IsGetOf answered get
-    get_answered get its =
-        let same = layout_same get.entry its.born in
-        let held : get.hold ≡ hold_of answered.pool.uber get.entry its.actor = search (same, arith) in
-        search (same, answered_in_pool, pool, on, still_held, get_shared)
-
-    job_answered : (job : CopyRun) → IsJobOf core job → IsJobOf answered job
-    job_answered job its =
-        let moves = job_moves job its.goes in
+    call_answered (Reading get) its =
+        let same = layout_same get.entry its.1.born in
+        let held : get.hold ≡ hold_of answered.pool.uber get.entry its.1.actor = search (same, arith) in
+        (its.0, search (same, answered_in_pool, pool, on, still_held, get_shared))
+    call_answered (Copying job) its =
         let held : job.hold ≡ hold_for_job chosen job.job.job job.hold.actor = search arith in
         search (job_goes, others_stay, drops, job_holds_else)
-
-    call_answered : (call : HoldingCall) → IsCallOfCore core call → IsCallOfCore answered call
-    call_answered call its = grind (arith, put_answered, get_answered, job_answered)
 
     pub answered_calls : (calls : List HoldingCall) → AreCallsOf core calls → AreCallsOf answered calls
     answered_calls calls are = search (call_answered, answered_under, pool, on, are.each)
 
     -- ---- what they hold
-
-    put_holds : (disk : Disk) (content : List ℕ) (put : PutRun) → IsPutOf core put
-        → HoldsPut content (at_disk core disk) put → HoldsPut content (at_disk answered disk) put
-    put_holds disk content put its = put_holds_moves core answered put its (put_alike put its)
-        (search (answered_in_pool, pool, on)) on.front disk content refl
 
     -- A column that was read, or lost with its device, is so at the chosen reflow.
     column_stays : (layout : Layout) (content : List ℕ) (row column : ℕ) (given : Option (List ℕ))
@@ -109,24 +95,17 @@ module _ (core : Core) (run : CommitRun) (is : IsCore core) (of : IsCommitOf cor
         → IsColumnOf layout content chosen core.pool.out row column given
     column_stays layout content row column given same is_column = grind arith
 
-    get_holds : (disk : Disk) (content : List ℕ) (get : GetRun) → IsGetOf core get
-        → HoldsGet content (at_disk core disk) get → HoldsGet content (at_disk answered disk) get
-    get_holds disk content get its held =
+    call_holds : (disk : Disk) (content : List ℕ) (call : HoldingCall) → IsCallOfCore core call
+        → HoldsCall (at_disk core disk) content call → HoldsCall (at_disk answered disk) content call
+    call_holds disk content (Putting put) its held = put_holds_moves core answered put its (put_alike put its)
+        (search (answered_in_pool, pool, on)) on.front disk content refl held
+    call_holds disk content (Reading get) (kind, its) held =
         let right : IsRightBlock get.read.layout content chosen behind disk.reads core.pool.out =
         search (answered_block, pool, on) in
         search (column_stays, spot_stays, get_outside, held.so_far.got, arith)
-
-    job_holds : (disk : Disk) (job : CopyRun) → CopiesCells reflow core.pool.done job.job (point_of core.pool.out disk)
-        → CopiesCells chosen behind job.job (point_of core.pool.out disk)
-    job_holds disk job held =
+    call_holds disk content (Copying job) its held =
         let its = chooses reflow core.pool.done chosen held.goes.widening.expands of.next.choice in
         search cells_behind
-
-    call_holds : (disk : Disk) (content : List ℕ) (call : HoldingCall) → IsCallOfCore core call
-        → HoldsCall (at_disk core disk) content call → HoldsCall (at_disk answered disk) content call
-    call_holds disk content (Putting put) its = search put_holds
-    call_holds disk content (Reading get) its = search get_holds
-    call_holds disk content (Copying job) its = search job_holds
 
     -- ---- all that stands
 

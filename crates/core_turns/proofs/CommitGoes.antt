@@ -1,5 +1,5 @@
 -- Commits, turn by turn: what a step leaves, and what each turn does to the bank and the devices.
-use Rattle.core_turns.proofs.Words.{◌≡◌, ◌⊎◌, ℕ, ◌^◌, ◌<◌, length, ap, arith, true≢false, Disk, Lawful, TouchesOnly, later_refl, touches_none, IsWithin, Uber, IsRightUber, Point, point_of, OnlyFailedGoOut, outs_none, CommitStep, Called, Ended, CommitRun, CommitSteps, FitsBank, IsOnInUse, ready_keeps, steps_same, steps_went, touched_none, touched_more, IsNextGroup, Pool, bank_later, Turn, More, Done, Core, CoreState, IsCore, HasBankOf, IsCommitOf, StepsCommit, TurnGoesOn}
+use Rattle.core_turns.proofs.Words.{◌≡◌, ◌⊎◌, ℕ, ◌^◌, ◌<◌, length, ap, arith, true≢false, Disk, Lawful, TouchesOnly, later_refl, touches_none, IsWithin, Uber, IsRightUber, Point, point_of, OnlyFailedGoOut, outs_none, CommitStep, Called, Ended, CommitRun, CommitSteps, FitsBank, IsOnInUse, ready_keeps, steps_same, steps_went, touched_none, touched_more, bank_later, Turn, More, Done, Core, CoreState, IsCore, HasBankOf, IsCommitOf, StepsCommit, TurnGoesOn}
 use Rattle.core_state.specs.declared.answer.Answer.TheVariants as answer
 use Rattle.core_turns.proofs.Cores.{core_out}
 use Rattle.core_turns.proofs.Commits.{core_rows}
@@ -9,25 +9,26 @@ pub step_outs : (before after : Point) (run stepped : CommitRun) (result : Commi
     → CommitSteps run before stepped after result → OnlyFailedGoOut before after
 step_outs before after run stepped result did = search (steps_went, stepped, did, true≢false, arith)
 
--- The group of a commit is the pool's next one still, whatever it lists as out.
-pub step_next : (pool : Pool) (uber stepped : Uber) → stepped ≡ record uber { out = stepped.out } → IsRightUber stepped
-    → IsNextGroup pool uber → IsNextGroup pool stepped
-step_next pool uber stepped same right next =
-    let widths = ap (λ (u : Uber). u.reflow) same in
-    record { right = right; number = cc; pool_is = cc; parity = cc; choice = rw widths next.choice; births = cc }
-
 -- A commit stays one of the core over a step: its group is right, and what that lists as out is out still.
 pub commit_stays : (core : Core) (run stepped : CommitRun) (out : ℕ) (old new : Disk) (result : CommitStep)
     → IsCommitOf core run → CommitSteps run (point_of core.pool.out old) stepped (point_of out new) result
     → IsWithin core.pool.out out → IsCommitOf (record core { pool = record core.pool { out = out } }) stepped
 commit_stays core run stepped out old new result of did still =
     let same = (steps_same result run stepped (point_of core.pool.out old) (point_of out new) did).0 in
+    let widths = ap (λ (u : Uber). u.reflow) same in
     let right : IsRightUber stepped.uber = grind arith in
     let lists : IsWithin stepped.uber.out out = grind arith in record {
       actor = of.actor;
       under_way = of.under_way;
       number = cc;
-      next = search step_next;
+      next = record {
+        right = right;
+        number = cc;
+        pool_is = cc;
+        parity = cc;
+        choice = rw widths of.next.choice;
+        births = cc;
+      };
       holds = search arith;
       lists = lists;
       reach = cc;
@@ -75,10 +76,8 @@ pub turn_steps : (before after : CoreState) (run stepped : CommitRun) (result : 
     → (after.core.pool.uber ≡ before.core.pool.uber) ⊎ (after.core.pool.uber ≡ stepped.uber)
     → after.core.reach ≡ before.core.reach → TurnGoesOn before after
 turn_steps before after run stepped result is lawful of did uber reach =
-    let made = (steps_same result run stepped (point_of before.core.pool.out before.disk)
-    (point_of after.core.pool.out after.disk) did).0 in
     let on = core_rows before.core run.uber.reflow is of.next.choice in
-    search (made, on, uber, steps_went, step_outs, step_touches, stepped, did, arith)
+    search (steps_same, on, uber, steps_went, step_outs, step_touches, stepped, did, arith)
 
 -- What a turn of a commit does to the bank and the devices: nothing, or what a step of it does.
 pub commit_goes : (before after : CoreState) (run : CommitRun) (result : Turn CommitRun) → IsCore before.core

@@ -47,7 +47,6 @@ pub begun_core : (core : Core) (holds : List Hold) (actor : ℕ) (chosen : Reflo
     → TakesHold core.holds holds (hold_for core.pool.uber.reflow chosen actor)
     → IsCore (record core { holds = holds; begun = core.begun + 1; committing = Some actor })
 begun_core core holds actor chosen is none limit may takes =
-    let right = (rests_pool core is none).right in
     let number = rests core is none in
     let under_way : Some actor ≡ None → ⊥ = λ same. cc in
     let pool : IsPool (as_begun (record core { holds = holds; begun = core.begun + 1; committing = Some actor })) =

@@ -1,5 +1,5 @@
 -- What a turn leaves of the calls that are under way beside it.
-use Rattle.core_turns.proofs.Words.{◌≡◌, ◌≢◌, ℕ, ◌≤◌, List, [], Option, false, ◌∙◌, arith, Contains, Unchanged, TouchesOnly, Hold, EndsHold, Reflow, Layout, IsRequiredPlace, IsFrontOf, IndexEntry, has_device, IsWithin, layout_of, Cell, IsCell, Nowhere, IsDataSector, AreUnderWay, IsListed, layout_run, AreClear, point_of, IsInPool, written_stays, SparesData, count_grows, CopyRun, GetRun, PutRun, Core, CoreState, IsGetOf, HoldsGet, AsksAlike, IsPutOf, HoldsPut, IsJobOf, HoldingCall, Putting, Reading, Copying, hold_of_call, ranges_of, IsCallOfCore, HoldsCall, AreCallsOf, actor_of, at_disk, Disk}
+use Rattle.core_turns.proofs.Words.{◌≡◌, ◌≢◌, ℕ, ◌≤◌, List, Option, false, ◌∙◌, arith, Contains, Unchanged, TouchesOnly, Hold, EndsHold, Reflow, Layout, IsRequiredPlace, IsFrontOf, IndexEntry, has_device, IsWithin, layout_of, Cell, IsCell, Nowhere, IsDataSector, AreUnderWay, IsListed, layout_run, AreClear, point_of, IsInPool, written_stays, SparesData, count_grows, CopyRun, GetRun, PutRun, Core, CoreState, IsGetOf, HoldsGet, AsksAlike, IsPutOf, HoldsPut, IsJobOf, HoldingCall, Putting, Reading, Copying, hold_of_call, ranges_of, IsCallOfCore, HoldsCall, AreCallsOf, actor_of, at_disk, Disk}
 use Rattle.core_turns.proofs.Beside.{IsWrittenTo, never_both, required_data, written_cell}
 use Rattle.core_turns.proofs.GetLaws.{get_stays}
 use Rattle.core_turns.proofs.Holds.{ends_stays}
@@ -123,18 +123,13 @@ get_block_stays P content before after run leaves off holds = get_stays content 
     (λ cell device device_sector is place used read. leaves.reads device device_sector used
     (search (required_data, leaves.front)) (search off) ∙ read) holds
 
--- A job has come as far.
-job_stays : (P : ℕ → ℕ → Type 0) (before after : CoreState) (run : CopyRun) → Leaves P before after
-    → IsJobOff P before.core.pool.uber.reflow before.core.pool.done run.job
-    → HoldsCall before [] (Copying run) → HoldsCall after [] (Copying run)
-job_stays P before after run leaves off holds = rw (leaves.reflow, leaves.done) (search job_leaves)
-
+-- So does each call, and a job has come as far.
 pub call_stays : (P : ℕ → ℕ → Type 0) (content : List ℕ) (before after : CoreState) (call : HoldingCall)
     → Leaves P before after → IsCallOff P before.core.pool.uber.reflow before.core.pool.done call
     → HoldsCall before content call → HoldsCall after content call
-call_stays P content before after (Putting run) = put_stays P content before after run
-call_stays P content before after (Reading run) = get_block_stays P content before after run
-call_stays P content before after (Copying run) = job_stays P before after run
+call_stays P content before after (Putting run) leaves off = put_stays P content before after run leaves off
+call_stays P content before after (Reading run) leaves off = get_block_stays P content before after run leaves off
+call_stays P content before after (Copying run) leaves off = rw (leaves.reflow, leaves.done) (search job_leaves)
 
 -- Where pool and disk are as they were each call holds what it held.
 pub calls_hold_on : (contents : ℕ → List ℕ) (calls : List HoldingCall) (old new : Core) (disk : Disk)

@@ -103,7 +103,6 @@ module _ (front : ℕ) (old new : List Hold) (hold : Hold) (exclusive : hold.kin
       → HasNoShared old (hold.lo, hold.hi) → TakesHold old new hold → IsHeldAlone front new hold
   alone_begins low none clear (inl taken) =
       let more = count_gained (is_alone_below front) old new hold taken.1 in
-      let begins = low taken.0 in
       record {
         low = low;
         held = inl (taken.0, gains_item old new hold taken.1, grind (arith, nat_tests));
@@ -117,7 +116,6 @@ module _ (front : ℕ) (old new : List Hold) (hold : Hold) (exclusive : hold.kin
   taken_count jobs low (inl taken) counted =
       let all = count_gained alone old new hold taken.1 in
       let below = count_gained (is_alone_below front) old new hold taken.1 in
-      let begins = low taken.0 in
       grind (arith, nat_tests)
   taken_count jobs low (inr empty) counted = search arith
 
@@ -171,7 +169,7 @@ pub alone_passes : (front next : ℕ) (old new : List Hold) (gone hold : Hold) �
     → gone.kind ≡ Exclusive → front ≤ gone.lo → front ≤ next → alone_below next new ≡ alone_below front old
     → EndsHold old new gone → IsHeldAlone front old hold → IsHeldAlone next new hold
 alone_passes front next old new gone hold exclusive alone high on same ends holds = alone_stays on same
-    (λ some. let low = holds.low some in ends_stays old new gone hold ends (λ is. grind arith))
+    (λ some. ends_stays old new gone hold ends (λ is. grind arith))
     (λ other listed. holds.clear other (search (gains_old, gains_ended))) holds
 
 -- ---- the hold of a job

@@ -1,6 +1,5 @@
 -- A device joins the pool in the commit that is under way: the group with it is one that this commit may record.
-use Rattle.core_turns.proofs.Words.{◌≡◌, ℕ, ◌+◌, ◌<◌, List, [], ◌∷◌, Some, refl, arith, pow-le-pow_right, true≢false, Disk, Reflow, IsRightUber, IsWiderByOne, MayRecord, Widens, choice_still, Map, Kept, Setting, point_of, CommitRun, IsWithin, IsLaidDown, MayWiden, widened_kept, widened_run, widened_uber, commit_widened, widened_right, Core, HasBankOf, IsCore, at_disk, IsCommitOf, IsHeldAlone, hold_for, CommitStands, HoldingCall, Stands}
-use Rattle.core_state.proofs.Fresh.{none_in}
+use Rattle.core_turns.proofs.Words.{◌≡◌, ℕ, ◌+◌, ◌<◌, List, [], ◌∷◌, Some, refl, arith, pow-le-pow_right, Disk, Reflow, IsRightUber, IsWiderByOne, MayRecord, choice_still, Map, Kept, Setting, point_of, CommitRun, IsLaidDown, MayWiden, widened_kept, widened_run, widened_uber, commit_widened, widened_right, Core, HasBankOf, IsCore, at_disk, IsCommitOf, IsHeldAlone, hold_for, CommitStands, HoldingCall, Stands}
 use Rattle.core_turns.proofs.Frames.{calls_hold_on}
 
 -- With one device more no sector's standing changes, as where the reflow stays.
@@ -32,8 +31,6 @@ module _ (core : Core) (run : CommitRun) (is : IsCore core) (of : IsCommitOf cor
   pub joined_commit : IsCommitOf (record core { reach = core.reach + 1 }) (widened_run run)
   joined_commit =
       let right : IsRightUber (widened_uber run.uber) = search (widened_right, kept, room) in
-      let lists : IsWithin (widened_uber run.uber).out core.pool.out = search (true≢false, none_in, arith) in
-      let may : MayRecord reflow core.pool.done (widened_uber run.uber).reflow = Widens wider in
       search (held, arith)
 
   -- The core stays one.
@@ -54,13 +51,12 @@ pub joined_stands : {setting : Setting} {last next : Kept} {map : Map} {contents
 joined_stands {setting} {last} {next} {map} {contents} {calls} core run disk is rest laid may bank stands =
     let was = stands.groups in
     let its : was.next ≡ next = cc (was.begun_is) in
-    let come = rw its at was.come in
     let groups : CommitStands (record setting { reach = setting.reach + 1 }) last (widened_kept next ∷ []) calls
     (widened_run run) (at_disk (record core { reach = core.reach + 1 }) disk) = record {
       next = widened_kept next;
       begun_is = refl;
       of = search (joined_commit, arith);
-      come = search (commit_widened, come);
+      come = search (commit_widened, rw its at was.come);
       lies = search (rw its at was.lies);
       kept = rw its at was.kept;
       spared = rw its at was.spared;

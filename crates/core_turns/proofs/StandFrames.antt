@@ -1,5 +1,5 @@
 -- What a turn leaves of the map, of the groups, and of all that stands.
-use Rattle.core_turns.proofs.Words.{◌≡◌, ℕ, ◌≤◌, List, Option, Some, None, refl, ◌∙◌, arith, Contains, Disk, Lawful, Later, Unchanged, tells_later, IndexEntry, IsWithin, Map, layout_of, Kept, Setting, KeepsSince, Nowhere, none_lost, unchanged_frames, knows_frame, might_at, IsListed, OnlyFailedGoOut, point_of, IsRightBlock, CommitRun, committing_unchanged, HoldsMap, bank_later, count_grows, block_stays, Core, CoreState, pool_at, IsCommitOf, hold_for, HoldingCall, actor_of, HoldsCall, LiesInPool, PutsSpare, GroupsStand, CommitStands, IsCommitting, Stands}
+use Rattle.core_turns.proofs.Words.{◌≡◌, ℕ, List, Option, Some, None, refl, ◌∙◌, arith, Contains, Disk, Lawful, Later, Unchanged, tells_later, IndexEntry, IsWithin, Map, layout_of, Kept, Setting, KeepsSince, Nowhere, none_lost, unchanged_frames, knows_frame, might_at, IsListed, OnlyFailedGoOut, point_of, IsRightBlock, CommitRun, committing_unchanged, HoldsMap, bank_later, count_grows, block_stays, Core, CoreState, pool_at, IsCommitOf, hold_for, HoldingCall, actor_of, HoldsCall, LiesInPool, PutsSpare, GroupsStand, CommitStands, IsCommitting, Stands}
 use Rattle.core_turns.proofs.Beside.{required_data}
 use Rattle.core_turns.proofs.Holds.{KeepsAlone, keeps_same}
 use Rattle.core_turns.proofs.Frames.{Leaves, AreOff, IsCallOff, OnlyOut, call_stays}
@@ -78,7 +78,6 @@ pub group_still : {setting : Setting} {last : Kept} {begun : List Kept} {calls :
     → CommitStands setting last begun calls next after
 group_still {calls = calls} before after was core of come =
     let spared : PutsSpare after calls was.next = λ put has. rw core (was.spared put has) in
-    let lies : LiesInPool after.core was.next = rw core (search was.lies) in
     search (come, arith)
 
 -- The groups stand still where devices were read,
@@ -100,8 +99,7 @@ groups_read setting last begun calls (Some run) before after core same outs lawf
 pub since_read : (setting : Setting) (groups : List Kept) (time : ℕ) (old new : Disk) → Unchanged old new
     → KeepsSince setting groups time old → KeepsSince setting groups time new
 since_read setting groups time old new same since = record {
-  each = λ moment image from until might.
-      let early : moment ≤ old.clock = omega arith in since.each moment image from early (search (might_at, arith));
+  each = λ moment image from until might. since.each moment image from (omega arith) (search (might_at, arith));
 }
 
 -- ---- all that stands
@@ -136,6 +134,6 @@ module _ {setting : Setting} {last : Kept} {begun : List Kept} {map : Map} where
       → AreOff P before.core → OnlyOut before.core after.core → Later before.disk after.disk
       → GroupsStand setting last begun calls next after → Stands setting last begun map contents calls commit before
       → Stands setting last begun map contents calls next after
-  stands_frame {contents = contents} P before after leaves calls_off off core later groups stands =
+  stands_frame P before after leaves calls_off off core later groups stands =
       stands_anew P before after leaves off core later groups (λ run listed. rw core (stands.spared run listed))
       (λ call listed. search (call_stays, calls_off, stands.each)) stands
