@@ -44,7 +44,7 @@ joining before after join result is lawful commit may did uber reach =
 pub attach_goes : (before after : CoreState) (run : AttachRun) (turn : Turn AttachRun) → IsCore before.core
     → Lawful before.disk → IsAttachRunOf before.core run → StepsAttach before run after turn → AttachGoesOn before after
 attach_goes before after (Reads ring) (More (Reads next)) is lawful of steps =
-    looked before after (cc) (cc) steps.unchanged
+    looked before after (rw steps.core) (rw steps.core) steps.unchanged
 attach_goes before after (Reads ring) (More (Checked next)) is lawful of steps =
     looked before after (rw steps.core) (rw steps.core) steps.unchanged
 attach_goes before after (Checked ring) (More (Checked next)) is lawful of steps =
@@ -61,9 +61,9 @@ attach_goes before after (Signs run because) (More (Signs next same)) is lawful 
     as_attach before after (commit_goes before after run (More next) is lawful of.0.of steps.1)
 attach_goes before after (Signs run because) (Done given) is lawful of (inl stops) = stopped before after stops.0
 attach_goes before after (Signs run because) (Done given) is lawful of (inr ends) =
-    let goes = as_attach before ends.answered (commit_goes before ends.answered run
-    (Done (answer.Synced before.core.begun)) is lawful of.0.of ends.answers) in
-    search arith
+    let goes : TurnGoesOn before ends.answered = commit_goes before ends.answered run
+    (Done (answer.Synced before.core.begun)) is lawful of.0.of ends.answers in
+    search (as_attach before ends.answered goes, arith)
 attach_goes before after run (Done given) is lawful of steps = stopped before after steps.0
 attach_goes before after run turn is lawful of steps = absurd steps
 

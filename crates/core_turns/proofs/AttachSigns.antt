@@ -16,8 +16,7 @@ join_continues old next before after did = grind (arith, goes_on)
 
 module _ {setting : Setting} {last : Kept} {begun : List Kept} {map : Map} {contents : ℕ → List ℕ}
     {calls : List HoldingCall} {before : CoreState} (join : JoinRun) (after : CoreState) (is : IsCore before.core)
-    (may : MayReachOn before.core)
-    (are : AreCallsOf before.core calls)
+    (may : MayReachOn before.core) (are : AreCallsOf before.core calls)
     (stands : Stands setting last begun map contents calls (Some join.run) before)
     (holds : HoldsAttach setting last begun before.disk (Joins join)) where
   abbrev old : Point
@@ -37,9 +36,9 @@ module _ {setting : Setting} {last : Kept} {begun : List Kept} {map : Map} {cont
       → KeepsSince setting groups time before.disk → KeepsSince setting groups time after.disk
   join_goes_since next groups time did within lawful row =
       let goes : IsJoining setting last stands.groups.next next new = search (joining_goes_on, its) in
+      let knows = committing_knows setting last stands.groups.next next.run new goes.commits in
       since_more setting groups time last [] before.disk after.disk (rw goes.lays at row)
-      (join_continues join next old new did.steps) (rw goes.lays at
-      (committing_knows setting last stands.groups.next next.run new goes.commits))
+      (join_continues join next old new did.steps) (rw goes.lays at knows)
 
   -- ---- the decision
 

@@ -43,7 +43,7 @@ module _ (core : Core) (join : JoinRun) (out : ℕ) (old new : Disk) (is : IsCor
   pub join_goes_commit : (next : JoinRun) → JoinSteps join before (step.GoesOn next) after
       → IsCommitOf (with_out core out) next.run
   join_goes_commit next (inl pool) = commit_stays core join.run next.run out old new Called of pool.called
-      (join_still (step.GoesOn next) (inl pool))
+      (search arith)
   join_goes_commit next (inr (inl laid)) = same_run next laid.out (cc)
   join_goes_commit next (inr (inr synced)) = same_run next synced.out (cc)
 

@@ -71,6 +71,9 @@ pub written_cell : (layout : Layout) (bytes : List ℕ) (reflow : Reflow) (done 
     × IsRequiredPlace reflow done cell.row_end cell.sector write.device write.device_sector
 written_cell layout bytes reflow done run write plan has =
     let required = plan.required.only write has in
-    let sector = sector_of layout write.row write.column in
-    let bytes = column_bytes layout bytes write.row write.column in
-    (record { sector = sector; row_end = end_of layout write.row; bytes = bytes }, search, required.1)
+    let cell : Cell = record {
+      sector = sector_of layout write.row write.column;
+      row_end = end_of layout write.row;
+      bytes = column_bytes layout bytes write.row write.column;
+    } in
+    (cell, search, required.1)

@@ -20,15 +20,14 @@ pub answered_core : (core : Core) (run : CommitRun) (holds : List Hold) → IsCo
 answered_core core run holds is of none jobs =
     let on = core_follows core run.uber.reflow is of.next.choice in
     let behind = front_behind core.pool.uber.reflow core.pool.done run.uber.reflow in
-    let low = front_no_higher core.pool.uber.reflow core.pool.done run.uber.reflow is.is.front of.next.choice in
-    let fewer = below_lower behind core.pool.done holds low in
+    let fewer = below_lower behind core.pool.done holds
+    (front_no_higher core.pool.uber.reflow core.pool.done run.uber.reflow is.is.front of.next.choice) in
     search (answered_pool, answered_step, of.reach, arith)
 
 -- What a commit held was its actor's.
 pub held_by_actor : (core : Core) (run : CommitRun) (actor : ℕ) → IsCommitOf core run → core.committing ≡ Some actor
     → IsHeldAlone core.pool.done core.holds (hold_for core.pool.uber.reflow run.uber.reflow actor)
-held_by_actor core run actor of is =
-    let same : of.actor ≡ actor = cc (of.under_way, is) in rw same at of.holds
+held_by_actor core run actor of is = let same : of.actor ≡ actor = cc (of.under_way, is) in rw same at of.holds
 
 -- It is among the holds where it has sectors.
 pub held_where : (core : Core) (run : CommitRun) (actor : ℕ) → IsCommitOf core run → core.committing ≡ Some actor

@@ -138,8 +138,7 @@ ended_of before after run ended did of =
     (search (out, arith)))
 
 module _ {before after : CoreState} {run : CommitRun} {group : ℕ} (is : IsCore before.core)
-    (of : IsCommitOf before.core run)
-    (answers : AnswersGroup before run after group) where
+    (of : IsCommitOf before.core run) (answers : AnswersGroup before run after group) where
   abbrev ended : CommitRun
   ended = answers.ended
 

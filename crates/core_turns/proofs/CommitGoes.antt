@@ -52,9 +52,9 @@ pub step_touches : (core : Core) (run stepped : CommitRun) (out : ℕ) (old new 
     (point_of out new) result → TouchesOnly (IsOnInUse core.reach core.pool.out) old new
 step_touches core run stepped out old new Called is lawful of did =
     let widths : did.ready.uber.reflow.to ≡ core.reach = search (ready_keeps, of.reach, did.is_ready, arith) in
-    let none = touched_none did.ready.uber (point_of core.pool.out old) in
-    rw widths at (touched_more did.ready.uber did.ready.entries did.call (point_of core.pool.out old)
-    (point_of core.pool.out old) (point_of out new) lawful did.inside none did.made).only
+    let before = point_of core.pool.out old in
+    rw widths at (touched_more did.ready.uber did.ready.entries did.call before before (point_of out new) lawful
+    did.inside (touched_none did.ready.uber before) did.made).only
 step_touches core run stepped out old new Ended is lawful of did =
     rw (ap (λ (p : Point). p.disk) did.same) (touches_none (IsOnInUse core.reach core.pool.out) old)
 
@@ -76,8 +76,7 @@ pub turn_steps : (before after : CoreState) (run stepped : CommitRun) (result : 
     → (after.core.pool.uber ≡ before.core.pool.uber) ⊎ (after.core.pool.uber ≡ stepped.uber)
     → after.core.reach ≡ before.core.reach → TurnGoesOn before after
 turn_steps before after run stepped result is lawful of did uber reach =
-    let on = core_rows before.core run.uber.reflow is of.next.choice in
-    search (steps_same, on, uber, steps_went, step_outs, step_touches, stepped, did, arith)
+    search (steps_same, core_rows, uber, steps_went, step_outs, step_touches, stepped, did, arith)
 
 -- What a turn of a commit does to the bank and the devices: nothing, or what a step of it does.
 pub commit_goes : (before after : CoreState) (run : CommitRun) (result : Turn CommitRun) → IsCore before.core

@@ -1,5 +1,5 @@
 -- A commit beside the calls that are under way: how it begins, goes on, and is cut short.
-use Rattle.core_turns.proofs.Words.{Contains, ◌≡◌, ℕ, ◌+◌, List, [], ◌∷◌, Some, None, refl, sym, subst, arith, Disk, Lawful, Reflow, IndexEntry, IsIndex, IsTable, IsWithin, Map, Kept, Setting, Point, point_of, IsRowOf, KeepsSince, Nowhere, since_more, MayRecord, Chooses, KeepsOrEnds, IsListed, put_run, SparesAll, blocks_kept, among_listed, CommitStep, Called, Ended, CommitRun, CommitSteps, IsCommitting, shown_by, committing_begins, committing_steps, committing_cut, committing_knows, goes_on, steps_went, uber_for, may_commit, listed_in_pool, IsReady, PutRun, More, Core, IsCore, CoreState, as_begun, at_disk, pool_at, HasTooManyOut, BeginsCommit, IsCommitOf, StepsCommit, commit_of, HoldingCall, Putting, Stands, AreCallsOf, CommitStands, shown_of, choice_widths}
+use Rattle.core_turns.proofs.Words.{Contains, ◌≡◌, ℕ, ◌+◌, List, [], ◌∷◌, Some, None, refl, sym, subst, arith, Disk, Lawful, Reflow, IndexEntry, IsIndex, IsTable, IsWithin, Map, Kept, Setting, Point, point_of, IsRowOf, KeepsSince, Nowhere, since_more, Chooses, KeepsOrEnds, IsListed, put_run, SparesAll, blocks_kept, among_listed, CommitStep, Called, Ended, CommitRun, CommitSteps, IsCommitting, shown_by, committing_begins, committing_steps, committing_cut, committing_knows, goes_on, steps_went, uber_for, may_commit, listed_in_pool, IsReady, PutRun, More, Core, IsCore, CoreState, as_begun, at_disk, pool_at, HasTooManyOut, BeginsCommit, IsCommitOf, StepsCommit, commit_of, HoldingCall, Putting, Stands, AreCallsOf, CommitStands, shown_of, choice_widths}
 use Rattle.core_turns.proofs.Calls.{range_listed}
 use Rattle.core_turns.proofs.Cores.{bank_within}
 use Rattle.core_turns.proofs.Commits.{begins_ready, begun_commit, core_follows, few_out, rests, rests_pool}
@@ -48,20 +48,18 @@ commit_begins_stands {setting} {last} {begun} {map} {contents} {calls} {old} {ne
     alone : Stands setting last [] map contents calls None (at_disk old disk)
     alone = search (few_out, arith)
 
-    may : MayRecord old.pool.uber.reflow old.pool.done chosen
-    may = Chooses old.holds begins.choice
-
     widths : KeepsOrEnds old.pool.uber.reflow chosen
     widths = search (choice_widths, arith)
 
     is_ready : IsReady old.pool chosen
-    is_ready = begins_ready old chosen is table begins.none begins.few (omega (arith, begins.limit)) may widths
+    is_ready = begins_ready old chosen is table begins.none begins.few (omega (arith, begins.limit))
+        (Chooses old.holds begins.choice) widths
 
     come : IsCommitting setting last next (commit_of old.pool chosen) (point_of old.pool.out disk)
     come = committing_begins setting [] last next (point_of old.pool.out disk) is_ready.right lawful
         (may_commit setting last map (pool_at (at_disk old disk)) (rests_pool old is begins.none)
-        (bank_within old disk is alone.bank) (search alone) alone.holds chosen (core_follows old chosen is may) widths
-        is.step is_ready [])
+        (bank_within old disk is alone.bank) (search alone) alone.holds chosen
+        (core_follows old chosen is (Chooses old.holds begins.choice)) widths is.step is_ready [])
 
     -- The commit has begun, its blocks are those of the table, and the rest stands as it did.
     now : Stands setting last (next ∷ []) map contents calls (Some (commit_of old.pool chosen))
@@ -116,8 +114,8 @@ module _ {setting : Setting} {last : Kept} {begun : List Kept} {map : Map} {cont
         stands_frame Nowhere before after (search leaves_spared) (search call_off_nowhere) (search off_nowhere)
         core went.spares.later (group_still before after stands.groups core of come_on) stands
 
-    -- What images keep since a moment they keep over a step: beside the last group they can show what the commit has come
-    -- to.
+    -- What images keep since a moment they keep over a step: beside the last group they can show what the commit has
+    -- come to.
     pub commit_moves_since : (groups : List Kept) (time : ℕ) → IsRowOf groups last (shown_of begun (Some next))
         → KeepsSince setting groups time before.disk → KeepsSince setting groups time after.disk
     commit_moves_since groups time row = moved result steps

@@ -82,7 +82,7 @@ below_all front holds = count_fewer (is_alone_below front) alone holds (λ hold.
 
 -- ---- the hold of a commit
 
--- Nobody shares a range where a hold comes that is not shared, or clear of it.
+-- Nobody shares a range still where a hold comes that is not shared, or clear of it.
 none_shared : (old new : List Hold) (item hold : Hold) → Gains old new item
     → (item.kind ≡ Shared → HasSectors hold → Overlaps item hold.lo hold.hi → ⊥) → HasNoShared old (hold.lo, hold.hi)
     → HasNoShared new (hold.lo, hold.hi)
@@ -97,8 +97,8 @@ ends_stays old new gone hold ends apart listed = ⊎_elim (λ same. absurd (apar
     (gains_cases new old gone hold (gains_ended old new gone ends) listed)
 
 module _ (front : ℕ) (old new : List Hold) (hold : Hold) (exclusive : hold.kind ≡ Exclusive) where
-  -- A range below the front that nobody shares, where nobody holds sectors below it alone, is held so by a commit, if it
-  -- has a sector.
+  -- A range below the front that nobody shares, where nobody holds sectors below it alone, is held so by a commit, if
+  -- it has a sector.
   pub alone_begins : (HasSectors hold → hold.lo < front) → alone_below front old ≡ 0
       → HasNoShared old (hold.lo, hold.hi) → TakesHold old new hold → IsHeldAlone front new hold
   alone_begins low none clear (inl taken) =
@@ -180,8 +180,7 @@ pub job_ended : (front : ℕ) (old new : List Hold) (hold : Hold) → hold.kind 
     → (exclusive_count old ≡ exclusive_count new + 1) × (alone_below front old ≡ alone_below front new)
 job_ended front old new hold exclusive high ends =
     let all = count_ended alone old new hold ends in
-    let below = count_ended (is_alone_below front) old new hold ends in
-    (grind arith, grind (arith, nat_tests))
+    let below = count_ended (is_alone_below front) old new hold ends in grind (arith, nat_tests)
 
 -- Where it was the only one from the front on, as many are alone below one behind it.
 pub front_passes : (front next : ℕ) (new : List Hold) → front ≤ next → exclusive_count new ≡ alone_below front new
@@ -198,7 +197,7 @@ KeepsAlone front old new = (hold : Hold) → hold.kind ≡ Exclusive → IsHeldA
 pub keeps_same : (front : ℕ) (old new : List Hold) → new ≡ old → KeepsAlone front old new
 keeps_same front old new same hold exclusive holds = search same
 
--- It is where a shared hold comes that is clear of it,
+-- So it is where a shared hold comes that is clear of it,
 pub keeps_gained : (front : ℕ) (old new : List Hold) (item : Hold) → item.kind ≡ Shared
     → IsClear old item.lo item.hi Shared → Gains old new item → KeepsAlone front old new
 keeps_gained front old new item shared clear gains hold exclusive holds = alone_stays (omega arith)

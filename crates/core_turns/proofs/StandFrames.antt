@@ -26,8 +26,8 @@ map_stays P map before after leaves table off holds = search (right, arith)
 
 -- ---- the groups
 
--- What a turn leaves of the commit under way: the pool's uberblock and front, the group begun last and who makes it, and
--- what it holds. Devices go out.
+-- What a turn leaves of the commit under way: the pool's uberblock and front, the group begun last and who makes it,
+-- and what it holds. Devices go out.
 pub record LeavesCommit (old new : Core) : Type 0 where
   pub uber : new.pool.uber ≡ old.pool.uber
   pub done : new.pool.done ≡ old.pool.done
@@ -57,7 +57,7 @@ out_leaves old new core within = search (keeps_same, arith)
 
 -- The group's blocks lie in the pool still.
 pub lies_still : {kept : Kept} (old new : Core) → LeavesCommit old new → LiesInPool old kept → LiesInPool new kept
-lies_still old new leaves lies = record { born = search arith; inside = rw leaves.uber lies.inside }
+lies_still old new leaves lies = search (rw (← leaves.uber) at lies.inside, arith)
 
 -- The laws of a disk held before where they hold after nothing was changed.
 lawful_before : {old new : Disk} → Unchanged old new → Lawful new → Lawful old
@@ -82,8 +82,8 @@ group_still {calls = calls} before after was core of come =
 
 -- The groups stand still where devices were read,
 pub groups_read : (setting : Setting) (last : Kept) (begun : List Kept) (calls : List HoldingCall)
-    (commit : Option CommitRun)
-    (before after : CoreState) → OnlyOut before.core after.core → Unchanged before.disk after.disk
+    (commit : Option CommitRun) (before after : CoreState) → OnlyOut before.core after.core
+    → Unchanged before.disk after.disk
     → OnlyFailedGoOut (point_of before.core.pool.out before.disk) (point_of after.core.pool.out after.disk)
     → Lawful after.disk → GroupsStand setting last begun calls commit before
     → GroupsStand setting last begun calls commit after
