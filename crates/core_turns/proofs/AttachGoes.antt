@@ -9,8 +9,7 @@ use Rattle.core_turns.proofs.CommitGoes.{commit_goes}
 pub as_attach : (before after : CoreState) → TurnGoesOn before after → AttachGoesOn before after
 as_attach before after goes =
     let only = touches_widen (IsOnInUse before.core.reach before.core.pool.out)
-    (IsOnInUse (before.core.reach + 1) before.core.pool.out) (search arith) goes.only in
-    search arith
+    (IsOnInUse (before.core.reach + 1) before.core.pool.out) (search arith) goes.only in search arith
 
 -- Devices were read at most, and the pool is as it was.
 looked : (before after : CoreState) → after.core.pool ≡ before.core.pool → after.core.reach ≡ before.core.reach

@@ -1,5 +1,5 @@
 -- Commits, turn by turn: what a step leaves, and what each turn does to the bank and the devices.
-use Rattle.core_turns.proofs.Words.{◌≡◌, ◌⊎◌, ℕ, ◌^◌, ◌<◌, length, ap, arith, true≢false, Disk, Lawful, TouchesOnly, later_refl, touches_none, IsWithin, Uber, IsRightUber, Point, point_of, OnlyFailedGoOut, outs_none, CommitStep, Called, Ended, CommitRun, CommitSteps, FitsBank, IsOnInUse, ready_keeps, steps_same, steps_went, touched_none, touched_more, bank_later, Turn, More, Done, Core, CoreState, IsCore, HasBankOf, IsCommitOf, StepsCommit, TurnGoesOn}
+use Rattle.core_turns.proofs.Words.{◌≡◌, ◌⊎◌, ℕ, ◌^◌, ◌<◌, length, ap, arith, true≢false, Disk, Lawful, TouchesOnly, later_refl, touches_none, IsWithin, Uber, IsRightUber, Point, point_of, OnlyFailedGoOut, outs_none, CommitStep, Called, Ended, CommitRun, CommitSteps, FitsBank, IsOnInUse, ready_keeps, steps_same, steps_went, touched_none, touched_more, bank_later, Turn, More, Done, Core, CoreState, IsCore, HasBankOf, IsCommitOf, IsHeldAlone, hold_for, StepsCommit, TurnGoesOn}
 use Rattle.core_state.specs.declared.answer.Answer.TheVariants as answer
 use Rattle.core_turns.proofs.Cores.{core_out}
 use Rattle.core_turns.proofs.Commits.{core_rows}
@@ -17,22 +17,10 @@ commit_stays core run stepped out old new result of did still =
     let same = (steps_same result run stepped (point_of core.pool.out old) (point_of out new) did).0 in
     let widths = ap (λ (u : Uber). u.reflow) same in
     let right : IsRightUber stepped.uber = grind arith in
-    let lists : IsWithin stepped.uber.out out = grind arith in record {
-      actor = of.actor;
-      under_way = of.under_way;
-      number = cc;
-      next = record {
-        right = right;
-        number = cc;
-        pool_is = cc;
-        parity = cc;
-        choice = rw widths of.next.choice;
-        births = cc;
-      };
-      holds = search arith;
-      lists = lists;
-      reach = cc;
-    }
+    let lists : IsWithin stepped.uber.out out = grind arith in
+    let held : IsHeldAlone core.pool.done core.holds (hold_for core.pool.uber.reflow stepped.uber.reflow of.actor) =
+    rw widths of.holds in
+    search (same, held, arith)
 
 -- The bank has what the commit's calls ask for.
 pub commit_fits : (core : Core) (run : CommitRun) (disk : Disk) → IsCore core → IsCommitOf core run
