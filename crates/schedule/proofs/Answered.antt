@@ -3,9 +3,6 @@ use Rattle.schedule.proofs.Words.{◌≡◌, ◌≢◌, ◌⊎◌, inl, inr, ⊎
 use Rattle.core_state.specs.declared.item.Group.{Group as GroupItem}
 use Rattle.schedule.proofs.Theirs.{some_is}
 
-no_call : {group : GroupItem} {entry : Entry} → Group group ≡ Call entry → ⊥
-no_call is = cc
-
 same_call : {one other : Entry} → Call one ≡ Call other → one ≡ other
 same_call is = cc
 

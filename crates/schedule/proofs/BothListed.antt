@@ -5,9 +5,6 @@ use Rattle.core_state.specs.declared.item.Group.{Group as GroupItem}
 same_group : {one other : GroupItem} → Group one ≡ Group other → one ≡ other
 same_group is = cc
 
-no_group : {entry : Entry} {group : GroupItem} → Call entry ≡ Group group → ⊥
-no_group is = cc
-
 -- The last group before an index is one alone.
 pub one_latest : {items : List Item} {index : ℕ} {one other : GroupItem} → IsGroupBefore items index one
     → IsGroupBefore items index other → one ≡ other

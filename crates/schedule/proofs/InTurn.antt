@@ -47,43 +47,30 @@ pub left_more : (start : Turns) (passed : List TurnTaken) (turn : TurnTaken)
 left_more start [] turn = refl
 left_more start (first ∷ passed) turn = left_more first.left passed turn
 
--- These turns were taken from one state to another.
-abbrev Are : Script → Turns → List TurnTaken → Turns → Type 0
-Are script start passed end = HaveTaken script start passed × (last_left start passed ≡ end)
+-- The steps of a replay are turns that were taken, and as many were counted.
+record AreTaken (script : Script) (start now : Replay) (passed : List TurnTaken) : Type 0 where
+  are : HaveTaken script start.turns passed × (last_left start.turns passed ≡ now.turns)
+  counted : now.taken ≡ start.taken + length passed
 
--- The steps of a replay are turns that were taken.
+step_taken : {script : Script} {start middle end : Replay} {before more : List TurnTaken} (whose : Option ℕ)
+    → IsStepOf script middle before more end whose → AreTaken script start middle before
+    → AreTaken script start end more
+step_taken None step taken = search arith
+step_taken (Some actor) step taken = search (taken_more, left_more, length-append, arith)
+
+goes_taken : {script : Script} {start : Replay} (steps : ℕ) (end : Replay) (passed : List TurnTaken)
+    → Goes script steps start passed end → AreTaken script start end passed
+goes_taken zero end passed goes = search arith
+goes_taken {script} (suc steps) end passed goes =
+    step_taken (turn_at script goes.0.turns.clients goes.0.cursor) goes.3.turn (goes_taken steps goes.0 goes.1 goes.2)
+
 pub gone_taken : {script : Script} {start now : Replay} {passed : List TurnTaken} → HasGone script start passed now
     → HaveTaken script start.turns passed × (last_left start.turns passed ≡ now.turns)
-gone_taken {script = script} {start = start} {now = now} {passed = passed} gone = by gone.steps now passed gone.goes
-  where
-    one : (middle end : Replay) (before more : List TurnTaken) (whose : Option ℕ)
-        → IsStepOf script middle before more end whose → Are script start.turns before middle.turns
-        → Are script start.turns more end.turns
-    one middle end before more None step are = search arith
-    one middle end before more (Some actor) step are = search (taken_more, left_more, arith)
+gone_taken {now = now} {passed = passed} gone = (goes_taken gone.steps now passed gone.goes).are
 
-    by : (steps : ℕ) (end : Replay) (passed : List TurnTaken) → Goes script steps start passed end
-        → Are script start.turns passed end.turns
-    by zero end passed goes = search arith
-    by (suc steps) end passed goes = one goes.0 end goes.1 passed
-        (turn_at script goes.0.turns.clients goes.0.cursor) goes.3.turn (by steps goes.0 goes.1 goes.2)
-
--- As many were counted as were taken.
 pub gone_counted : {script : Script} {start now : Replay} {passed : List TurnTaken} → HasGone script start passed now
     → now.taken ≡ start.taken + length passed
-gone_counted {script = script} {start = start} {now = now} {passed = passed} gone = by gone.steps now passed gone.goes
-  where
-    one : (middle end : Replay) (before more : List TurnTaken) (whose : Option ℕ)
-        → IsStepOf script middle before more end whose → middle.taken ≡ start.taken + length before
-        → end.taken ≡ start.taken + length more
-    one middle end before more None step so_far = search
-    one middle end before more (Some actor) step so_far = search (length-append, arith)
-
-    by : (steps : ℕ) (end : Replay) (passed : List TurnTaken) → Goes script steps start passed end
-        → end.taken ≡ start.taken + length passed
-    by zero end passed goes = search arith
-    by (suc steps) end passed goes = one goes.0 end goes.1 passed
-        (turn_at script goes.0.turns.clients goes.0.cursor) goes.3.turn (by steps goes.0 goes.1 goes.2)
+gone_counted {now = now} {passed = passed} gone = (goes_taken gone.steps now passed gone.goes).counted
 
 -- ---- clients
 
@@ -133,25 +120,6 @@ begun_none_left clients actor number begun = by (slice_get clients actor) refl
 
 -- ---- rounds
 
--- In a round a client that has a call under way has a turn, and another has none;
-pub turn_in_round : (script : Script) (clients : List Client) (actor : ℕ) → is_busy_at clients actor ≡ true
-    → turn_at script clients (InRound actor) ≡ Some actor
-turn_in_round script clients actor busy = cc
-
-pub none_in_round : (script : Script) (clients : List Client) (actor : ℕ) → is_busy_at clients actor ≡ false
-    → turn_at script clients (InRound actor) ≡ None
-none_in_round script clients actor free = cc
-
--- then the next client is looked at,
-pub round_goes : (script : Script) (clients : List Client) (actor : ℕ) → actor < script.clients
-    → cursor_after script clients (InRound actor) ≡ InRound (actor + 1)
-round_goes script clients actor low = search lt-ltb
-
--- or the round is over.
-pub round_ends : (script : Script) (clients : List Client) {actor : ℕ} → script.clients ≤ actor
-    → cursor_after script clients (InRound actor) ≡ after_round clients
-round_ends script clients past = search le-ltb
-
 -- Where any call is under way a round follows,
 pub round_next : (clients : List Client) → is_any_busy clients ≡ true → after_round clients ≡ InRound 0
 round_next clients busy = cc
@@ -159,30 +127,3 @@ round_next clients busy = cc
 -- and where none is the rest.
 pub rest_next : (clients : List Client) → is_any_busy clients ≡ false → after_round clients ≡ InRest 0
 rest_next clients free = cc
-
--- ---- the rest
-
--- whose turn it is at a call, where that call is under way or left
-abbrev if_any : ℕ → Bool → Option ℕ
-if_any actor any = if any then Some actor else None
-
-in_rest : (script : Script) (clients : List Client) (given actor number : ℕ) → IsCallOfScript script given actor number
-    → turn_at script clients (InRest given)
-    ≡ if_any actor (is_busy_at clients actor || has_left_at clients actor number)
-in_rest script clients given actor number is = cc
-
-module _ (script : Script) (clients : List Client) {given : ℕ} (actor : ℕ) {number : ℕ}
-    (is : IsCallOfScript script given actor number) where
-  -- A call that is under way has a turn,
-  pub busy_in_rest : is_busy_at clients actor ≡ true → turn_at script clients (InRest given) ≡ Some actor
-  busy_in_rest busy = cc
-
-  -- and so has one that is left;
-  pub left_in_rest : is_busy_at clients actor ≡ false → has_left_at clients actor number ≡ true
-      → turn_at script clients (InRest given) ≡ Some actor
-  left_in_rest free left = cc
-
-  -- one that has ended has none.
-  pub none_in_rest : is_busy_at clients actor ≡ false → has_left_at clients actor number ≡ false
-      → turn_at script clients (InRest given) ≡ None
-  none_in_rest free none = cc

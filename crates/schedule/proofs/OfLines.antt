@@ -24,9 +24,6 @@ group_is is = cc
 call_is : {one other : Entry} → Call one ≡ Call other → one ≡ other
 call_is is = cc
 
-no_group : {entry : Entry} {group : GroupItem} → Call entry ≡ Group group → ⊥
-no_group is = cc
-
 no_call : {group : GroupItem} {entry : Entry} → Group group ≡ Call entry → ⊥
 no_call is = cc
 

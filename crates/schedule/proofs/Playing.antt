@@ -1,9 +1,9 @@
 -- Turns of a script, one after the other.
-use Rattle.schedule.proofs.Words.{◌≡◌, ℕ, ◌+◌, ◌<◌, ◌≤◌, List, [], ◌∷◌, length, drop, Some, None, refl, sym, subst, arith, ◌++◌, true, map, take, slice_get, Result, Ok, Err, OnErr, drop_more, map-append, take_more, Disk, Script, Journal, Core, Client, Progress, most_turns, Turns, taken_by, Cursor, InOrder, InRest, InRound, IsCallOfScript, Replay, after_round, cursor_after, has_left_at, is_any_busy, is_busy_at, replay_at, replay_by, turn_at, turns_by, HaveHadTurns, HasPlayed, HasRunOutOfTurns, IsReady, AreIdle, HasTurn, HaveBegun}
+use Rattle.schedule.proofs.Words.{◌≡◌, ℕ, ◌+◌, ◌<◌, ◌≤◌, List, [], ◌∷◌, length, drop, Some, None, refl, sym, subst, arith, ◌++◌, true, map, take, slice_get, Result, Ok, Err, OnErr, drop_more, map-append, take_more, Disk, Script, Journal, Core, Client, Progress, most_turns, Turns, taken_by, Cursor, InOrder, InRest, InRound, IsCallOfScript, Replay, after_round, cursor_after, has_left_at, is_any_busy, is_busy_at, replay_at, replay_by, turn_at, turns_by, HaveHadTurns, HasPlayed, HasRunOutOfTurns, IsReady, AreIdle, HasTurn, HaveBegun, lt-ltb, le-ltb}
 use Rattle.std.proofs.Common.{get_or}
 use Rattle.std.specs.Prelude.{false}
 use Rattle.schedule.proofs.Coming.{came_nowhere, came_on}
-use Rattle.schedule.proofs.InTurn.{gone_taken, begun_none_left, busy_in_rest, gone_more, gone_none, gone_then, idle_not_busy, left_in_rest, none_in_rest, none_in_round, past_not_busy, round_ends, round_goes, round_next, turn_in_round}
+use Rattle.schedule.proofs.InTurn.{gone_taken, begun_none_left, gone_more, gone_none, gone_then, idle_not_busy, past_not_busy, round_next}
 use Rattle.schedule.proofs.CallTaken.{given_own}
 
 -- What holds follows where an answer is `Err`.
@@ -17,22 +17,87 @@ pub played_none : {script : Script} {room : ℕ} (now : Replay) → IsReady scri
 played_none {script} now ready =
     record { passed = []; come = came_nowhere refl; gone = gone_none script now; ready = ready }
 
--- Turns go on after turns,
-pub played_then : {script : Script} {start middle now : Replay} {before after : ℕ}
-    → HasPlayed script start middle before → HasPlayed script middle now after → HasPlayed script start now after
-played_then {script} {start} {middle} {now} first second = record {
-  passed = first.passed ++ second.passed;
-  come = search came_on;
-  gone = search gone_then;
-  ready = second.ready;
-}
+module _ {script : Script} {start : Replay} where
+  -- Turns go on after turns,
+  pub played_then : {middle now : Replay} {before after : ℕ} → HasPlayed script start middle before
+      → HasPlayed script middle now after → HasPlayed script start now after
+  played_then {middle} {now} first second = record {
+    passed = first.passed ++ second.passed;
+    come = search came_on;
+    gone = search gone_then;
+    ready = second.ready;
+  }
 
--- or no more can be counted.
-pub stopped_then : {script : Script} {start middle : Replay} {turns : Turns} {taken before after : ℕ}
-    → HasPlayed script start middle before → HasRunOutOfTurns script middle turns taken after
-    → HasRunOutOfTurns script start turns taken after
-stopped_then first second =
-    record { most = second.most; cursor = second.cursor; played = played_then first second.played }
+  -- or no more can be counted.
+  pub stopped_then : {middle : Replay} {turns : Turns} {taken before after : ℕ} → HasPlayed script start middle before
+      → HasRunOutOfTurns script middle turns taken after → HasRunOutOfTurns script start turns taken after
+  stopped_then first second =
+      record { most = second.most; cursor = second.cursor; played = played_then first second.played }
+
+  -- The client whose turn it is had it,
+  pub played_turn : {before after : Turns} {taken counted room left actor : ℕ} {from : Cursor} (to : Cursor)
+      → HasPlayed script start (replay_at before taken from) room → turn_at script before.clients from ≡ Some actor
+      → cursor_after script before.clients from ≡ to → HasTurn script actor before after → counted ≡ taken + 1
+      → IsReady script after left → HasPlayed script start (replay_at after counted to) left
+  played_turn {before} {after} {taken} {counted} {actor = actor} {from = from} to played whose goes turn one ready =
+      record {
+        passed = played.passed ++ taken_by actor after ∷ [];
+        come = search came_on;
+        gone = search (gone_more, arith);
+        ready = ready;
+      }
+
+  -- or it is nobody's turn there.
+  pub played_past : {turns : Turns} {taken room : ℕ} {from to : Cursor}
+      → HasPlayed script start (replay_at turns taken from) room → turn_at script turns.clients from ≡ None
+      → cursor_after script turns.clients from ≡ to → HasPlayed script start (replay_at turns taken to) room
+  played_past {turns} {taken} {from = from} {to = to} played whose goes = search (gone_more, arith)
+
+  -- The same place said otherwise.
+  pub played_at : {turns : Turns} {taken room : ℕ} {from to : Cursor} → from ≡ to
+      → HasPlayed script start (replay_at turns taken from) room
+      → HasPlayed script start (replay_at turns taken to) room
+  played_at same played = rw same at played
+
+  -- The client of a letter of the order had its turn.
+  pub played_letter : {before after : Turns} {taken counted room left actor : ℕ} (letters : List ℕ) (index other : ℕ)
+      → index < length letters → actor ≡ get_or letters index other
+      → HasPlayed script start (replay_at before taken (InOrder (drop index letters))) room
+      → HasTurn script actor before after → counted ≡ taken + 1 → IsReady script after left
+      → HasPlayed script start (replay_at after counted (InOrder (drop (index + 1) letters))) left
+  played_letter {before = before} {actor = actor} letters index other low is played turn one ready =
+      search (played_turn, played, next)
+    where
+      next : drop index letters ≡ actor ∷ drop (index + 1) letters
+      next = search (drop_more, arith)
+
+  -- After a round, where another one began, it is over too.
+  pub round_over : {middle now : Turns} {taken counted room left : ℕ}
+      → HasPlayed script start (replay_at middle taken (after_round middle.clients)) room
+      → is_any_busy middle.clients ≡ true
+      → HasPlayed script (replay_at middle taken (InRound 0)) (replay_at now counted (InRound script.clients)) left
+      → HasPlayed script start (replay_at now counted (after_round now.clients)) left
+  round_over {middle} {now} so_far busy round =
+      let free = past_not_busy now.clients {actor = script.clients} (omega arith) in
+      played_past (played_then (played_at (round_next middle.clients busy) so_far) round) (cc) (search (le-ltb, arith))
+
+  -- A call of the rest had a turn,
+  pub played_later : {before after : Turns} {taken counted room left given actor number : ℕ}
+      → IsCallOfScript script given actor number → HasPlayed script start (replay_at before taken (InRest given)) room
+      → is_busy_at before.clients actor ≡ true → HasTurn script actor before after → counted ≡ taken + 1
+      → IsReady script after left → HasPlayed script start (replay_at after counted (InRest given)) left
+  played_later {before = before} {given = given} is played busy turn one ready =
+      played_turn (InRest given) played (cc) (cc) turn one ready
+
+  -- or has ended, and the next one is looked at.
+  pub rest_goes : {now : Turns} {taken room given next actor number : ℕ}
+      → next ≡ given + 1 → IsCallOfScript script given actor number → AreIdle now.clients
+      → HaveBegun script next now.clients → HasPlayed script start (replay_at now taken (InRest given)) room
+      → HasPlayed script start (replay_at now taken (InRest next)) room
+  rest_goes {now = now} {given = given} {actor = actor} {number} one is idle begun played =
+      let free = idle_not_busy actor idle in
+      let none = begun_none_left now.clients actor number (search (given_own, arith)) in
+      played_past played (cc) (cc)
 
 -- No more turns can be counted from the start on.
 pub stopped_same : {script : Script} {core : Core} {disk : Disk} (journal : Journal) (before after : Progress)
@@ -49,44 +114,6 @@ stopped_same {script = script} {core = core} {disk = disk} journal before after 
       played = played_none (replay_by core disk journal before cursor) ready;
     }))
 
--- The client whose turn it is had it,
-pub played_turn : {script : Script} {start : Replay} {before after : Turns} {taken counted room left actor : ℕ}
-    {from : Cursor} (to : Cursor) → HasPlayed script start (replay_at before taken from) room
-    → turn_at script before.clients from ≡ Some actor → cursor_after script before.clients from ≡ to
-    → HasTurn script actor before after → counted ≡ taken + 1 → IsReady script after left
-    → HasPlayed script start (replay_at after counted to) left
-played_turn {script} {start} {before} {after} {taken} {counted} {actor = actor} {from = from} to played whose goes turn
-    one ready = record {
-      passed = played.passed ++ taken_by actor after ∷ [];
-      come = search came_on;
-      gone = search (gone_more, arith);
-      ready = ready;
-    }
-
--- or it is nobody's turn there.
-pub played_past : {script : Script} {start : Replay} {turns : Turns} {taken room : ℕ} {from : Cursor} {to : Cursor}
-    → HasPlayed script start (replay_at turns taken from) room
-    → turn_at script turns.clients from ≡ None → cursor_after script turns.clients from ≡ to
-    → HasPlayed script start (replay_at turns taken to) room
-played_past {script} {start} {turns} {taken} {from = from} {to = to} played whose goes = search (gone_more, arith)
-
--- The same place said otherwise.
-pub played_at : {script : Script} {start : Replay} {turns : Turns} {taken room : ℕ} {from to : Cursor} → from ≡ to
-    → HasPlayed script start (replay_at turns taken from) room → HasPlayed script start (replay_at turns taken to) room
-played_at {script} {start} {turns} {taken} {room} same played = rw same at played
-
--- The client of a letter of the order had its turn.
-pub played_letter : {script : Script} {start : Replay} {before after : Turns} {taken counted room left actor : ℕ}
-    (letters : List ℕ) (index other : ℕ) → index < length letters → actor ≡ get_or letters index other
-    → HasPlayed script start (replay_at before taken (InOrder (drop index letters))) room
-    → HasTurn script actor before after → counted ≡ taken + 1 → IsReady script after left
-    → HasPlayed script start (replay_at after counted (InOrder (drop (index + 1) letters))) left
-played_letter {script} {before = before} {actor = actor} letters index other low is played turn one ready =
-    search (played_turn, played, next)
-  where
-    next : drop index letters ≡ actor ∷ drop (index + 1) letters
-    next = search (drop_more, arith)
-
 -- The first clients of a list had their turns: those are all that were taken.
 pub record TakesListed (script : Script) (listed : List ℕ) (index : ℕ) (start now : Replay) (room : ℕ) : Type 0 where
   pub played : HasPlayed script start now room
@@ -97,89 +124,53 @@ pub listed_none : {script : Script} {room : ℕ} {listed : List ℕ} {now : Repl
 unfolding played_none
 listed_none {now = now} ready = record { played = played_none now ready; actors = refl }
 
-pub listed_more : {script : Script} {listed : List ℕ} {index : ℕ} {start : Replay} {before after : Turns}
-    {taken counted room left : ℕ} (other : ℕ) → index < length listed
-    → TakesListed script listed index start (replay_at before taken (InOrder (drop index listed))) room
-    → HasTurn script (get_or listed index other) before after → counted ≡ taken + 1 → IsReady script after left
-    → TakesListed script listed (index + 1) start (replay_at after counted (InOrder (drop (index + 1) listed))) left
-unfolding played_letter played_turn
-listed_more {listed = listed} {index} {after = after} other low so_far turn one ready = record {
-  played = played_letter listed index other low refl so_far.played turn one ready;
-  actors = search (map-append, take_more, arith);
-}
+module _ {script : Script} {listed : List ℕ} {index : ℕ} {start : Replay} where
+  pub listed_more : {before after : Turns} {taken counted room left : ℕ} (other : ℕ) → index < length listed
+      → TakesListed script listed index start (replay_at before taken (InOrder (drop index listed))) room
+      → HasTurn script (get_or listed index other) before after → counted ≡ taken + 1 → IsReady script after left
+      → TakesListed script listed (index + 1) start (replay_at after counted (InOrder (drop (index + 1) listed))) left
+  unfolding played_letter played_turn
+  listed_more {after = after} other low so_far turn one ready = record {
+    played = played_letter listed index other low refl so_far.played turn one ready;
+    actors = search (map-append, take_more, arith);
+  }
 
-pub have_had_turns : {script : Script} {listed : List ℕ} {index room : ℕ} {start now : Replay}
-    → take index listed ≡ listed → TakesListed script listed index start now room
-    → HaveHadTurns script start.turns listed now.turns room
-have_had_turns {script = script} {start = start} {now = now} all takes = record {
-  passed = takes.played.passed;
-  actors_are = cc;
-  taken = (gone_taken takes.played.gone).0;
-  come = takes.played.come;
-  ready = takes.played.ready;
-}
+  pub have_had_turns : {room : ℕ} {now : Replay} → take index listed ≡ listed
+      → TakesListed script listed index start now room → HaveHadTurns script start.turns listed now.turns room
+  have_had_turns all takes = record {
+    passed = takes.played.passed;
+    actors_are = cc;
+    taken = (gone_taken takes.played.gone).0;
+    come = takes.played.come;
+    ready = takes.played.ready;
+  }
 
--- A client had its turn in a round,
-pub played_in_round : {script : Script} {before after : Turns} {room left actor counted : ℕ} {taken : ℕ}
-    → IsReady script before room → actor < script.clients → is_busy_at before.clients actor ≡ true
-    → HasTurn script actor before after → counted ≡ taken + 1 → IsReady script after left
-    → HasPlayed script (replay_at before taken (InRound actor)) (replay_at after counted (InRound (actor + 1))) left
-played_in_round {script} {before} {actor = actor} {taken = taken} was low busy turn one ready =
-    played_turn (InRound (actor + 1)) (played_none (replay_at before taken (InRound actor)) was)
-    (search turn_in_round) (round_goes script before.clients actor low) turn one ready
+module _ {script : Script} {taken : ℕ} where
+  -- A client had its turn in a round,
+  pub played_in_round : {before after : Turns} {room left actor counted : ℕ} → IsReady script before room
+      → actor < script.clients → is_busy_at before.clients actor ≡ true → HasTurn script actor before after
+      → counted ≡ taken + 1 → IsReady script after left
+      → HasPlayed script (replay_at before taken (InRound actor)) (replay_at after counted (InRound (actor + 1))) left
+  played_in_round {before} {actor = actor} was low busy turn one ready = played_turn (InRound (actor + 1))
+      (played_none (replay_at before taken (InRound actor)) was) (cc) (search lt-ltb) turn one ready
 
--- or had none.
-pub passed_in_round : {script : Script} {now : Turns} {room actor : ℕ} {taken : ℕ} → IsReady script now room
-    → actor < script.clients → is_busy_at now.clients actor ≡ false
-    → HasPlayed script (replay_at now taken (InRound actor)) (replay_at now taken (InRound (actor + 1))) room
-passed_in_round {script} {now} {actor = actor} {taken = taken} ready low free =
-    played_past (played_none (replay_at now taken (InRound actor)) ready)
-    (none_in_round script now.clients actor free) (round_goes script now.clients actor low)
+  -- or had none.
+  pub passed_in_round : {now : Turns} {room actor : ℕ} → IsReady script now room → actor < script.clients
+      → is_busy_at now.clients actor ≡ false
+      → HasPlayed script (replay_at now taken (InRound actor)) (replay_at now taken (InRound (actor + 1))) room
+  passed_in_round {now} {actor = actor} ready low free =
+      played_past (played_none (replay_at now taken (InRound actor)) ready) (cc) (search lt-ltb)
 
--- The order is over.
-pub order_over : {script : Script} {now : Turns} {room : ℕ} {taken : ℕ} → IsReady script now room
-    → HasPlayed script (replay_at now taken (InOrder [])) (replay_at now taken (after_round now.clients)) room
-order_over {now = now} {taken = taken} ready =
-    played_past (played_none (replay_at now taken (InOrder [])) ready) refl refl
+  -- The order is over.
+  pub order_over : {now : Turns} {room : ℕ} → IsReady script now room
+      → HasPlayed script (replay_at now taken (InOrder [])) (replay_at now taken (after_round now.clients)) room
+  order_over {now} ready = played_past (played_none (replay_at now taken (InOrder [])) ready) refl refl
 
--- After a round, where another one began, it is over too.
-pub round_over : {script : Script} {start : Replay} {middle now : Turns} {taken counted room left : ℕ}
-    → HasPlayed script start (replay_at middle taken (after_round middle.clients)) room
-    → is_any_busy middle.clients ≡ true
-    → HasPlayed script (replay_at middle taken (InRound 0)) (replay_at now counted (InRound script.clients)) left
-    → HasPlayed script start (replay_at now counted (after_round now.clients)) left
-round_over {script} {middle = middle} {now} so_far busy round =
-    played_past (played_then (played_at (round_next middle.clients busy) so_far) round)
-    (search (none_in_round, past_not_busy, arith)) (round_ends script now.clients (omega arith))
-
--- A call of the rest had a turn: the first,
-pub played_first : {script : Script} {before after : Turns} {counted room left given actor number : ℕ} {taken : ℕ}
-    → IsReady script before room → IsCallOfScript script given actor number → is_busy_at before.clients actor ≡ false
-    → has_left_at before.clients actor number ≡ true
-    → HasTurn script actor before after → counted ≡ taken + 1 → IsReady script after left
-    → HasPlayed script (replay_at before taken (InRest given)) (replay_at after counted (InRest given)) left
-played_first {script} {before} {given = given} {actor} {number} {taken = taken} was is free more turn one ready =
-    let whose = left_in_rest script before.clients actor is free more in
-    played_turn (InRest given) (played_none (replay_at before taken (InRest given)) was) whose (cc) turn one ready
-
--- or a later one.
-pub played_later : {script : Script} {start : Replay} {before after : Turns}
-    {taken counted room left given actor number : ℕ} → IsCallOfScript script given actor number
-    → HasPlayed script start (replay_at before taken (InRest given)) room → is_busy_at before.clients actor ≡ true
-    → HasTurn script actor before after → counted ≡ taken + 1 → IsReady script after left
-    → HasPlayed script start (replay_at after counted (InRest given)) left
-played_later {script} {before = before} {given = given} {actor} {number} is played busy turn one ready =
-    let whose = busy_in_rest script before.clients actor is busy in
-    played_turn (InRest given) played whose (cc) turn one ready
-
--- A call of the rest has ended, and the next one is looked at.
-pub rest_goes : {script : Script} {start : Replay} {now : Turns} {taken room given next actor number : ℕ}
-    → next ≡ given + 1 → IsCallOfScript script given actor number → AreIdle now.clients
-    → HaveBegun script next now.clients → HasPlayed script start (replay_at now taken (InRest given)) room
-    → HasPlayed script start (replay_at now taken (InRest next)) room
-rest_goes {script} {now = now} {given = given} {next} {actor} {number} one is idle begun played =
-    let none = none_in_rest script now.clients actor is (idle_not_busy actor idle) (search (begun_none_left, enough)) in
-    played_past played none (cc)
-  where
-    enough : (client : Client) → slice_get now.clients actor ≡ Some client → number ≤ client.begun
-    enough client there = search (given_own, arith)
+  -- A call of the rest had its first turn.
+  pub played_first : {before after : Turns} {counted room left given actor number : ℕ} → IsReady script before room
+      → IsCallOfScript script given actor number → is_busy_at before.clients actor ≡ false
+      → has_left_at before.clients actor number ≡ true → HasTurn script actor before after → counted ≡ taken + 1
+      → IsReady script after left
+      → HasPlayed script (replay_at before taken (InRest given)) (replay_at after counted (InRest given)) left
+  played_first {before} {given = given} was is free more turn one ready = played_turn (InRest given)
+      (played_none (replay_at before taken (InRest given)) was) (cc) (cc) turn one ready

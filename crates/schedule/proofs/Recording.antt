@@ -1,8 +1,9 @@
 -- A journal goes on to tell what it did, turn by turn: the devices go on, a commit begins or ends, a call is answered.
-use Rattle.schedule.proofs.Words.{◌≡◌, ℕ, ◌≤◌, List, [], ◌∷◌, ◌++◌, length, refl, sym, ◌∙◌, ap, subst, arith, append_assoc, length-append, ◌+◌, append-nil, Contains, ⊤, Disk, Later, Entry, Item, Group, Call, Map, PutBytes, IsGroupBefore, IsAnswerOf, Calls, Follows, IsAttachOf, Kept, Setting, Knows, AwaitsAttach, IsGroupOf, IsBegunAfter, Groups, IsRowOf, KeepsSince, KeepsThroughout, World, knows_keep, contains_head, contains_none, contains_tail, Stage, Lays, since_longer, shown_in, KeepsLast, HaveParityOf, parity_with, map_before, answers_grown_call, answers_grown_group, groups_grown_call, latest_grown_call, latest_grown_group, group_of_grown, after_listed, width_step_where, groups_grown_group, groups_call, groups_end, groups_begun, groups_cut, contains_one, row_among, each_grown_call, each_grown_group, HasBegun, Recorded, IsRightNext, IsBegunAt, KeepsOn, KeepsTurnByTurn, Past}
+use Rattle.schedule.proofs.Words.{◌≡◌, ℕ, ◌≤◌, List, [], ◌∷◌, ◌++◌, length, refl, sym, ◌∙◌, ap, subst, arith, append_assoc, length-append, ◌+◌, append-nil, Contains, ⊤, Disk, Later, Entry, Item, Group, Call, Map, PutBytes, IsGroupBefore, IsAnswerOf, Calls, Follows, IsAttachOf, Kept, Setting, Knows, AwaitsAttach, IsGroupOf, IsBegunAfter, Groups, IsRowOf, KeepsSince, KeepsThroughout, World, knows_keep, contains_head, contains_none, contains_tail, Stage, Lays, since_longer, shown_in, KeepsLast, HaveParityOf, parity_with, map_before, answers_grown_call, answers_grown_group, groups_grown_call, latest_grown_call, latest_grown_group, group_of_grown, after_listed, width_step_where, groups_grown_group, groups_call, groups_end, groups_begun, groups_cut, contains_one, row_among, each_grown_call, each_grown_group, HasBegun, Recorded, IsRightNext, IsBegunAt, KeepsOn, KeepsTurnByTurn, Past, CallAt, GroupsAreRight, AnswersAreCaused, KeptSoFar}
 use Rattle.std.specs.Prelude.{◌≢◌}
 use Rattle.core_state.specs.declared.answer.Answer.TheVariants as answer
 use Rattle.core_state.specs.declared.item.Group.{Group as GroupItem}
+use Rattle.core_state.specs.Legal.{AnswersAreRight}
 use Rattle.core_commit.specs.declared.commit_run.Stage.TheVariants.{Signs}
 use Rattle.schedule.proofs.BothListed.{both_right, groups_both}
 use Rattle.schedule.proofs.Caused.{caused_call, caused_group}
@@ -13,33 +14,9 @@ in_row : (known earlier begun : List Kept) (last : Kept)
     → (known ++ (earlier ++ last ∷ [])) ++ begun ≡ ((known ++ earlier) ++ (last ∷ begun)) ++ []
 in_row known earlier begun last = simp (append_assoc, append-nil)
 
-next_at_end : (known answered : List Kept) (next : Kept)
-    → (known ++ answered) ++ next ∷ [] ≡ (known ++ (answered ++ next ∷ [])) ++ []
-next_at_end known answered next = simp (append_assoc, append-nil)
-
 begun_row : (known : List Kept) {answered left all begun : List Kept} (next : Kept) → left ≡ [] → all ≡ answered
     → begun ≡ next ∷ [] → (known ++ answered ++ left) ++ next ∷ [] ≡ known ++ all ++ begun
-begun_row known next none all_is begun_is = search (append-nil, arith)
-
-ended_row : (known answered : List Kept) {begun all left : List Kept} (next : Kept) → begun ≡ next ∷ []
-    → all ≡ answered ++ next ∷ [] → left ≡ [] → known ++ answered ++ begun ≡ known ++ all ++ left
-ended_row known answered next begun_is all_is none = search (next_at_end, arith)
-
--- The groups with none that is begun.
-groups_none : {calls : Calls} {handed : PutBytes} {opening : Map} {known : List Kept} {items : List Item}
-    → (groups : Groups calls handed opening known items)
-    → (none : Groups calls handed opening known items) × (none.answered ≡ groups.answered) × (none.begun ≡ [])
-groups_none groups = (
-  record {
-    answered = groups.answered;
-    begun = [];
-    each = groups.each;
-    one = omega arith;
-    unanswered = λ kept has. absurd (contains_none kept has);
-  },
-  refl,
-  refl,
-)
+begun_row known next none all_is begun_is = simp (none, all_is, begun_is, append-nil)
 
 -- The last group of a journal and those begun, as its groups tell of them.
 latest_of : {calls : Calls} {handed : PutBytes} {opening : Map} {known : List Kept} {items : List Item}
@@ -54,15 +31,6 @@ latest_of {calls = calls} {handed = handed} {opening = opening} {known = known} 
       begun_is = λ kept has. groups_begun calls handed opening known items groups item latest kept (search arith);
       parity = parity;
     }
-
--- Just after an item was listed nothing else was done.
-on_listed : {setting : Setting} {calls : Calls} {handed : PutBytes} {opening : Map} {item : GroupItem} {last : Kept}
-    {begun : List Kept} {now : Disk} (items : List Item) (new : Item) (past : Past)
-    → past.banks (length items + 1) ≡ now
-    → KeepsOn setting calls handed opening (items ++ new ∷ []) item last begun now now
-    → KeepsOn setting calls handed opening (items ++ new ∷ []) item last begun
-    (past.banks (length (items ++ new ∷ []))) now
-on_listed items new past here on = search (length-append, arith)
 
 -- What each image kept since some moment, it keeps once the devices have gone on.
 abbrev pub GoesOnSince : Setting → Kept → List Kept → Disk → Disk → Type 0
@@ -101,6 +69,36 @@ module _ {world : World} {past : Past} {items : List Item} {item : GroupItem} {l
       goes_on groups time row kept =
           since_any_reach world.setting (keeps groups time row (since_any_reach world.setting kept))
 
+  -- An item is listed, just now, and the journal's groups stand in a row as before.
+  recorded_on : (middle : List Item) (new : Item) (earlier : List Kept) {group : GroupItem} {next : Kept}
+      {onward : List Kept} {reach : ℕ} (groups : Groups world.calls world.handed world.opening world.known (middle ++ new ∷ []))
+      → groups.answered ≡ earlier ++ next ∷ [] → groups.begun ≡ onward
+      → world.known ++ so_far.groups.answered ++ so_far.groups.begun ≡ world.known ++ groups.answered ++ groups.begun
+      → AreLatest world.calls world.handed world.opening world.known (middle ++ new ∷ []) group next onward
+      → GroupsAreRight (middle ++ new ∷ []) → AnswersAreRight world.handed world.opening (middle ++ new ∷ [])
+      → ((index : ℕ) (entry : Entry) → CallAt (middle ++ new ∷ []) index entry → IsSound entry)
+      → AnswersAreCaused (middle ++ new ∷ []) past.banks
+      → KeptSoFar world.setting world.calls world.handed world.opening world.known (middle ++ new ∷ []) past
+      → past.banks (length middle + 1) ≡ now → Knows (record world.setting { reach = reach }) next onward now
+      → Recorded world past (middle ++ new ∷ []) group next onward now
+  recorded_on middle new earlier groups answered_are begun_are row latest in_order right sound caused
+      no_older here knows = record {
+        groups = groups;
+        earlier = earlier;
+        answered_are = answered_are;
+        begun_are = begun_are;
+        latest = latest.latest;
+        item_is = latest.last_is;
+        in_order = in_order;
+        right = right;
+        sound = sound;
+        caused = caused;
+        since = rw row at so_far.since;
+        parity = rw row at so_far.parity;
+        no_older = no_older;
+        kept_on = rw (length-append middle (new ∷ []), here) (on_now latest knows);
+      }
+
   -- A call is answered that ends no group.
   pub recorded_answers : (reach : ℕ) (entry : Entry) → past.banks (length items + 1) ≡ now
       → Knows (record world.setting { reach = reach }) last begun now
@@ -109,26 +107,14 @@ module _ {world : World} {past : Past} {items : List Item} {item : GroupItem} {l
   recorded_answers reach entry here knows right is_answer =
       let grown = groups_call world.calls world.handed world.opening world.known items so_far.groups so_far.in_order
       entry in
-      let latest = latest_grown_call items entry item so_far.latest in
       let item_is = group_of_grown world.handed world.opening items item last (Call entry ∷ []) after_few
       so_far.item_is in
-      record {
-        groups = grown.0;
-        earlier = so_far.earlier;
-        answered_are = cc;
-        begun_are = cc;
-        latest = latest;
-        item_is = item_is;
-        in_order = search groups_grown_call;
-        right = search answers_grown_call;
-        sound = each_grown_call IsSound items entry so_far.sound right.sound;
-        caused = search (caused_call, arith);
-        since = search arith;
-        parity = subst (HaveParityOf world.known) (λ i. world.known ++ sym grown.1 i ++ sym grown.2 i) so_far.parity;
-        no_older = search (kept_more, some_items, latest_now);
-        kept_on = on_listed items (Call entry) past here
-            (on_now (latest_of grown.0 (grown.2 ∙ so_far.begun_are) latest item_is parity_now) knows);
-      }
+      recorded_on items (Call entry) so_far.earlier grown.0 (grown.1 ∙ so_far.answered_are) (grown.2 ∙ so_far.begun_are)
+      (λ i. world.known ++ sym grown.1 i ++ sym grown.2 i)
+      (latest_of grown.0 (grown.2 ∙ so_far.begun_are) (latest_grown_call items entry item so_far.latest) item_is
+      parity_now) (search groups_grown_call) (search answers_grown_call)
+      (each_grown_call IsSound items entry so_far.sound right.sound) (search (caused_call, arith))
+      (search (kept_more, some_items, latest_now)) here knows
 
   -- What each image of the run keeps,
   abbrev pub recorded_throughout : KeepsThroughout world.setting world.calls world.handed world.opening world.known
@@ -245,34 +231,32 @@ module _ {world : World} {past : Past} {items : List Item} {item : GroupItem} {l
   next_parity : HaveParityOf world.known (next ∷ [])
   next_parity one known kept has = search (parity_now, contains_tail)
 
+  -- What the journal tells of groups once it is listed.
+  ended : (groups : Groups world.calls world.handed world.opening world.known with_group)
+      × (groups.answered ≡ so_far.groups.answered ++ next ∷ []) × (groups.begun ≡ [])
+  ended = groups_end world.calls world.handed world.opening world.known items (record {
+    answered = so_far.groups.answered;
+    begun = [];
+    each = so_far.groups.each;
+    one = omega arith;
+    unanswered = λ kept has. absurd (contains_none kept has);
+  }) refl group next next_is so_far.in_order
+
+  ended_latest : AreLatest world.calls world.handed world.opening world.known with_group group next []
+  ended_latest = latest_of ended.0 ended.2 (latest_grown_group items group) next_is next_parity
+
+  ended_kept : past.banks (length items + 1) ≡ now
+      → KeptSoFar world.setting world.calls world.handed world.opening world.known with_group past
+  ended_kept here = search (kept_more, some_items, latest_now)
+
   -- The group's item is listed alone, where it begins no expansion,
   pub recorded_makes : (attached → ⊥) → past.banks (length items + 1) ≡ now
       → Recorded world past with_group group next [] now
-  recorded_makes none here =
-      let left = groups_none so_far.groups in
-      let ended = groups_end world.calls world.handed world.opening world.known items left.0 left.2 group next next_is
-      so_far.in_order in
-      let answered_are = ended.1 ∙ ap (λ (l : List Kept). l ++ next ∷ []) left.1 in
-      let row = ended_row world.known so_far.groups.answered next so_far.begun_are answered_are ended.2 in
-      let latest = latest_grown_group items group in
-      let now_latest = latest_of ended.0 ended.2 latest next_is next_parity in
-      record {
-        groups = ended.0;
-        earlier = so_far.groups.answered;
-        answered_are = answered_are;
-        begun_are = ended.2;
-        latest = latest;
-        item_is = next_is;
-        in_order = groups_grown_group items group so_far.in_order item so_far.latest
-            (follows (λ attached. absurd (none attached)));
-        right = search answers_grown_group;
-        sound = each_grown_group IsSound items group so_far.sound;
-        caused = caused_group items group so_far.caused;
-        since = search arith;
-        parity = rw row at so_far.parity;
-        no_older = search (kept_more, some_items, latest_now);
-        kept_on = search (on_listed, on_now);
-      }
+  recorded_makes none here = recorded_on so_far items (Group group) so_far.groups.answered ended.0 ended.1 ended.2
+      (simp (so_far.begun_are, ended.1, ended.2, append_assoc, append-nil)) ended_latest
+      (groups_grown_group items group so_far.in_order item so_far.latest (follows (λ attached. absurd (none attached))))
+      (search answers_grown_group) (each_grown_group IsSound items group so_far.sound)
+      (caused_group items group so_far.caused) (ended_kept here) here knows
 
   -- or before the answer. A group that begins an expansion is answered as an attach's.
   pub recorded_ends : (entry : Entry)
@@ -281,33 +265,14 @@ module _ {world : World} {past : Past} {items : List Item} {item : GroupItem} {l
       → past.banks (length items + 1) ≡ now → past.banks (length with_group + 1) ≡ now
       → Recorded world past ((items ++ Group group ∷ []) ++ Call entry ∷ []) group next [] now
   recorded_ends entry told right is_answer here then =
-      let left = groups_none so_far.groups in
-      let ended = groups_end world.calls world.handed world.opening world.known items left.0 left.2 group next next_is
-      so_far.in_order in
-      let answered_are = ended.1 ∙ ap (λ (l : List Kept). l ++ next ∷ []) left.1 in
       let grown = groups_both items group entry (search after_listed) within ended.0 ended.2 in
-      let latest = latest_grown_group items group in
-      let latest_both = latest_grown_call with_group entry group latest in
       let both_is = group_of_grown world.handed world.opening with_group group next (Call entry ∷ [])
       (omega (arith, length-append items (Group group ∷ []))) next_is in
-      let row = ended_row world.known so_far.groups.answered next so_far.begun_are (cc) grown.2 in
-      let now_latest = latest_of ended.0 ended.2 latest next_is next_parity in
-      record {
-        groups = grown.0;
-        earlier = so_far.groups.answered;
-        answered_are = grown.1 ∙ answered_are;
-        begun_are = grown.2;
-        latest = latest_both;
-        item_is = both_is;
-        in_order = search (both_right, follows);
-        right = search (answers_grown_call, answers_grown_group);
-        sound = each_grown_call IsSound with_group entry (each_grown_group IsSound items group so_far.sound)
-            right.sound;
-        caused = caused_call entry (caused_group items group so_far.caused) (search arith);
-        since = search arith;
-        parity = rw row at so_far.parity;
-        no_older = kept_more (search (kept_more, some_items, latest_now)) (omega arith) now_latest
-            (search (on_listed, on_now)) (Call entry) then;
-        kept_on = on_listed with_group (Call entry) past then
-            (on_now (latest_of grown.0 grown.2 latest_both both_is next_parity) knows);
-      }
+      recorded_on so_far with_group (Call entry) so_far.groups.answered grown.0 (grown.1 ∙ ended.1) grown.2
+      (simp (so_far.begun_are, grown.1, grown.2, ended.1, append_assoc, append-nil))
+      (latest_of grown.0 grown.2 (latest_grown_call with_group entry group (latest_grown_group items group)) both_is
+      next_parity) (search (both_right, follows)) (search (answers_grown_call, answers_grown_group))
+      (each_grown_call IsSound with_group entry (each_grown_group IsSound items group so_far.sound) right.sound)
+      (caused_call entry (caused_group items group so_far.caused) (search arith))
+      (kept_more (ended_kept here) (omega (arith, length-append items (Group group ∷ []))) ended_latest
+      (rw (length-append items (Group group ∷ []), here) (on_now ended_latest knows)) (Call entry) then) then knows

@@ -3,10 +3,6 @@ use Rattle.schedule.proofs.Words.{◌≡◌, ℕ, ◌+◌, ◌<◌, ◌≤◌, L
 use Rattle.std.specs.Prelude.{false}
 use Rattle.schedule.proofs.Theirs.{none_some}
 
-any_first : (first : Client) (clients : List Client) → first.under_way ≡ None
-    → is_any_busy (first ∷ clients) ≡ is_any_busy clients
-any_first first clients idle = cc
-
 -- Where any client has a call under way, one of them has,
 pub any_busy : (clients : List Client) → is_any_busy clients ≡ true
     → (index : ℕ) × (index < length clients) × (is_busy_at clients index ≡ true)
