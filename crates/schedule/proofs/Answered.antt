@@ -1,10 +1,7 @@
 -- The calls of a script that a journal answers, as clients go on.
-use Rattle.schedule.proofs.Words.{◌≡◌, ◌≢◌, ◌⊎◌, inl, inr, ⊎_elim, ℕ, ◌+◌, ◌-◌, ◌<◌, ◌≤◌, List, [], ◌∷◌, ◌++◌, length, Some, None, sym, ◌∙◌, ap, arith, slice_get, cases_eq, cases_lt, slice_get-map, Entry, Item, Group, Call, CallAt, Asked, IsAsked, ScriptCall, Script, calls_of, asked_by, grown_has, last_there, new_or_before, Client, UnderWay, ClientsAreAnswered, Changes, answered_of}
+use Rattle.schedule.proofs.Words.{◌≡◌, ◌≢◌, ◌⊎◌, inl, inr, ⊎_elim, ℕ, ◌+◌, ◌-◌, ◌<◌, ◌≤◌, List, [], ◌∷◌, ◌++◌, length, Some, None, sym, ◌∙◌, ap, arith, slice_get, cases_eq, cases_lt, slice_get-map, Entry, Item, Group, Call, CallAt, IsAsked, ScriptCall, Script, calls_of, asked_by, grown_has, last_there, new_or_before, Client, UnderWay, ClientsAreAnswered, Changes, answered_of}
 use Rattle.core_state.specs.declared.item.Group.{Group as GroupItem}
 use Rattle.schedule.proofs.Theirs.{some_is}
-
-same_call : {one other : Entry} → Call one ≡ Call other → one ≡ other
-same_call is = cc
 
 -- how many calls of a client were answered
 abbrev pub answered : Client → ℕ
@@ -76,13 +73,7 @@ module _ {script : Script} {old new : List Client} {index : ℕ} {before client 
       (kind_is : entry.kind ≡ call.kind) (id_is : entry.id ≡ call.id) where
     -- The script asks for it.
     is_asked : IsAsked (asked_by script) entry
-    is_asked = search (number, slice_get-map, asking, arith)
-      where
-        asking : ScriptCall → Asked
-        asking call = record { kind = call.kind; id = call.id }
-
-        number : entry.call - 1 ≡ answered before
-        number = omega (arith, call_is)
+    is_asked = search (slice_get-map, arith)
 
     -- An entry of the grown journal is this one, or was there before.
     abbrev OfGrown : ℕ → Entry → Type 0
@@ -90,10 +81,7 @@ module _ {script : Script} {old new : List Client} {index : ℕ} {before client 
         ((place < length items) × CallAt items place other)
 
     of_grown : {place : ℕ} {other : Entry} → CallAt (items ++ Call entry ∷ []) place other → OfGrown place other
-    of_grown {place = place} {other = other} there = elim (new_or_before items (Call entry) place (Call other) there) [
-      | inl new ↦ inl (new.0, same_call new.1)
-      | inr old ↦ inr old
-    ]
+    of_grown {place = place} {other = other} there = search (new_or_before, arith)
 
     each_asked : (place : ℕ) (other : Entry) → OfGrown place other → IsAsked (asked_by script) other
     each_asked place other (inl new) = rw new.1 at is_asked

@@ -1,5 +1,5 @@
 -- Where a run begins, and where it ends with all calls answered.
-use Rattle.schedule.proofs.Words.{◌≡◌, ◌≢◌, ⊎_elim, ℕ, ◌+◌, ◌*◌, ◌<◌, ◌≤◌, List, [], ◌∷◌, length, Some, suc, sym, ◌∙◌, ap, subst, arith, ne_eqb, slice_index_or, All, filter, slice_get, ◌==◌, cases_eq, length-map, length-replicate, take_all, slice_get-get_or, Disk, Entry, Item, CallAt, Asked, IsComplete, Journal, ScriptCall, Placed, Script, asked_by, calls_of, Core, at_disk, HasBankOf, Client, Progress, ClientsAreAnswered, answered_of, IsSchedule, turns_of, Cursor, replay_at, replay_by, turns_by, shared_count, IsReady, AreIdle, HaveBegun, IsAtRest, blank_client, blank_clients}
+use Rattle.schedule.proofs.Words.{◌≡◌, ◌≢◌, ⊎_elim, ℕ, ◌+◌, ◌*◌, ◌<◌, ◌≤◌, List, [], ◌∷◌, length, suc, sym, ◌∙◌, ap, subst, arith, ne_eqb, slice_index_or, All, filter, ◌==◌, cases_eq, length-map, length-replicate, take_all, slice_get-get_or, Disk, Entry, Item, CallAt, Asked, IsComplete, Journal, ScriptCall, Placed, Script, asked_by, calls_of, Core, at_disk, HasBankOf, Client, Progress, ClientsAreAnswered, answered_of, IsSchedule, turns_of, Cursor, replay_at, replay_by, turns_by, shared_count, IsReady, AreIdle, HaveBegun, IsAtRest, blank_client, blank_clients}
 use Rattle.schedule.proofs.Rooms.{room_at_first}
 use Rattle.schedule.proofs.Theirs.{none_some}
 use Rattle.schedule.proofs.Opened.{blank_is, calls_none, none_held, none_of_blank}
@@ -8,30 +8,8 @@ use Rattle.schedule.proofs.Opened.{blank_is, calls_none, none_held, none_of_blan
 pub schedule_at_rest : (script : Script) {core : Core} {disk : Disk} {items : List Item} (count : ℕ) → IsAtRest core
     → HasBankOf core disk → ((index : ℕ) (entry : Entry) → CallAt items index entry → ⊥)
     → IsSchedule script (turns_of (at_disk core disk) items (blank_clients count))
-schedule_at_rest script {core = core} {disk = disk} count rest bank none = record {
-  going = record {
-    are = search (none_held, calls_none);
-    each = search (none_of_blank, arith);
-    one = λ actor is. cc;
-    attaches = λ actor is. cc;
-  };
-  answered = record {
-    right = record {
-      each = search arith;
-      order = search arith;
-    };
-    few = search (blank_is, arith);
-    some = search (none_of_blank, arith);
-    each = λ index entry there. absurd (none index entry there);
-    every = search (none_begun, arith);
-  };
-  bank = bank;
-  there = search (blank_is, arith);
-}
-  where
-    none_begun : (caller number : ℕ) (client : Client) → slice_get (blank_clients count) caller ≡ Some client
-        → number < answered_of client.begun client.under_way → ⊥
-    none_begun caller number client there low = search (blank_is, arith)
+schedule_at_rest script {core = core} {disk = disk} {items = items} count rest bank none =
+    search (none_held, calls_none, none_of_blank, blank_is, none, arith)
 
 -- Before the first turn: clients that have begun no call, and room for all answers.
 pub ready_at_rest : {script : Script} {core : Core} {disk : Disk} {items : List Item} {journal : Journal}
@@ -55,7 +33,7 @@ pub first_is : (script : Script) {core : Core} {disk : Disk} {items : List Item}
     → journal.items ≡ items → progress.clients.items ≡ blank_clients script.clients → progress.turns ≡ 0
     → replay_by core disk journal progress cursor
     ≡ replay_at (turns_of (at_disk core disk) items (blank_clients script.clients)) 0 cursor
-first_is script {core = core} {disk = disk} {items = items} journal progress {cursor = cursor} same blank none = search
+first_is script journal progress same blank none = search
 
 -- A client that has calls is one of the script's.
 callers_few : (calls : List Placed) (caller clients : ℕ) → All (λ placed. placed.actor < clients) calls
@@ -64,8 +42,8 @@ callers_few [] caller clients all some = absurd (omega arith)
 callers_few (first ∷ calls) caller clients all some = ⊎_elim
     (λ (same : first.actor ≡ caller). omega (arith, all 0 first (omega arith), same))
     (λ (apart : first.actor ≢ caller).
-    callers_few calls caller clients (λ k d within. all (suc k) d (omega arith))
-    (rw (ne_eqb first.actor caller apart) at some)) (cases_eq first.actor caller)
+    callers_few calls caller clients (λ k d within. all (suc k) d (omega arith)) (rw ne_eqb at some))
+    (cases_eq first.actor caller)
 
 -- Where each client has begun all its calls, and none is under way, no answer is missing.
 pub complete_at_rest : {script : Script} {items : List Item} {clients : List Client}

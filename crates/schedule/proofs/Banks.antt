@@ -1,41 +1,11 @@
 -- The banks with which a run's items were listed: those that its turns left.
-use Rattle.schedule.proofs.Words.{◌≡◌, ⊎_elim, ℕ, ◌<◌, ◌≤◌, List, [], ◌∷◌, ◌++◌, length, Option, Some, None, ◌∙◌, ap, refl, arith, length-append, get_or, cases_lt, le-ltb, lt-ltb, slice_get-get_or, Disk, Entry, Item, Group, Call, Reflow, ScriptCall, Script, Turn, More, Busy, Done, UnderWay, Work, HaveTaken, IsTurnOf, blank_client, Station, LeavesBegun, LeavesGoing, Turned, Nothing, Began, Went, group_with, listed_of, listed_on, Turns, TurnTaken, AreListedWith, bank_when, last_left}
+use Rattle.schedule.proofs.Words.{◌≡◌, ⊎_elim, ℕ, ◌<◌, ◌≤◌, List, [], ◌∷◌, length, ◌∙◌, refl, arith, length-append, get_or, cases_lt, le-ltb, lt-ltb, slice_get-get_or, Disk, ScriptCall, Script, HaveTaken, IsTurnOf, blank_client, Station, Turned, Turns, TurnTaken, AreListedWith, bank_when, last_left}
 
 -- ---- a turn lists items at the end, or none
 
-one_longer : (items : List Item) {now : List Item} (item : Item) → now ≡ items ++ item ∷ [] → length items ≤ length now
-one_longer items item is = search (length-append, arith)
-
-listed_grows : (widths : Reflow) (items now : List Item) (at : ℕ) (entry : Entry) (group : Option ℕ)
-    → now ≡ listed_of widths items at entry group → length items ≤ length now
-listed_grows widths items now at entry (Some number) is =
-    let group : Item = Group (group_with widths at number) in
-    omega (arith, one_longer items group refl, one_longer (items ++ group ∷ []) (Call entry) is)
-listed_grows widths items now at entry None is = one_longer items (Call entry) is
-
-begun_grows : (actor : ℕ) (call : ScriptCall) (before after : Station) (turn : Turn Work)
-    → LeavesBegun actor call before after turn → length before.items ≤ length after.items
-begun_grows actor call before after (More does) leaves = search arith
-begun_grows actor call before after (Busy by) leaves = let same = ap length leaves.0 in omega (arith, same)
-begun_grows actor call before after (Done given) leaves = one_longer before.items _ leaves.0
-
--- Nor is the journal shorter where a call goes on.
-on_grows : (widths : Reflow) (items : List Item) {now : List Item} (at : ℕ) (made : Option ℕ)
-    → now ≡ listed_on widths items at made → length items ≤ length now
-on_grows widths items at None is = search arith
-on_grows widths items at (Some number) is = search one_longer
-
-gone_grows : (actor : ℕ) (call : ScriptCall) (before after : Station) (under : UnderWay) (turn : Turn Work)
-    → LeavesGoing actor call before after under turn → length before.items ≤ length after.items
-gone_grows actor call before after under (More does) leaves = search on_grows
-gone_grows actor call before after under (Busy by) leaves = absurd leaves
-gone_grows actor call before after under (Done given) leaves = search listed_grows
-
 turned_grows : {calls : List ScriptCall} (actor : ℕ) (before after : Station) → Turned calls actor before after
     → length before.items ≤ length after.items
-turned_grows actor before after (Nothing nothing) = search arith
-turned_grows actor before after (Began turn begins leaves) = search begun_grows
-turned_grows actor before after (Went under turn goes leaves) = search gone_grows
+turned_grows actor before after turned = grind (arith, length-append)
 
 turn_grows : {script : Script} {actor : ℕ} {before after : Turns} → IsTurnOf script actor before after
     → length before.items ≤ length after.items

@@ -1,17 +1,11 @@
 -- A journal as an opening leaves it: its group alone.
-use Rattle.schedule.proofs.Words.{◌≡◌, inl, inr, ℕ, List, [], ◌∷◌, ◌++◌, refl, sym, subst, arith, append-nil, Contains-append_right, Disk, Later, Entry, Group, Call, PutBytes, CallAt, Calls, HaveParity, Kept, Setting, IsGroupOf, KeepsSince, contains_none, OpensPool, Pool, first_item, new_or_before, answers_alone, group_alone, latest_alone, groups_one, HaveParityOf, parity_opened, Recorded, Past}
+use Rattle.schedule.proofs.Words.{◌≡◌, ℕ, List, [], ◌∷◌, ◌++◌, refl, sym, subst, arith, append-nil, Contains-append_right, Disk, Later, Entry, Group, PutBytes, CallAt, Calls, HaveParity, Kept, Setting, IsGroupOf, KeepsSince, contains_none, OpensPool, Pool, first_item, new_or_before, answers_alone, group_alone, latest_alone, groups_one, HaveParityOf, parity_opened, Recorded, Past}
 use Rattle.core_state.specs.declared.item.Group.{Group as GroupItem}
 use Rattle.schedule.proofs.Moments.{AreLatest, kept_first, on_now}
 
 -- A journal of a group alone has no entries.
 pub no_call : (group : GroupItem) (index : ℕ) {entry : Entry} → CallAt (Group group ∷ []) index entry → ⊥
-no_call group index {entry = entry} there = elim (new_or_before [] (Group group) index (Call entry) there) [
-  | inl last ↦ apart last.1
-  | inr earlier ↦ omega arith
-]
-  where
-    apart : Group group ≡ Call entry → ⊥
-    apart is = cc
+no_call group index {entry = entry} there = grind (arith, new_or_before)
 
 module _ {setting : Setting} {first : Kept} {later : List Kept} {pool : Pool} {silent : ℕ} {old mid : Disk}
     (calls : Calls) (handed : PutBytes)
@@ -36,8 +30,7 @@ module _ {setting : Setting} {first : Kept} {later : List Kept} {pool : Pool} {s
     last_is = next_is;
     one = omega arith;
     begun_is = λ kept has. absurd (contains_none kept has);
-    parity = λ group known kept has. parity_opened parity begins.opened group known kept
-        (Contains-append_right (first ∷ later) (next ∷ []) kept has);
+    parity = λ group known kept has. parity_opened parity begins.opened group known kept (search Contains-append_right);
   }
 
   -- The groups known before, and that of the opening, which holds the map of the group that it renews.

@@ -1,5 +1,5 @@
 -- A commit begins after the last group listed, which is one alone.
-use Rattle.schedule.proofs.Words.{◌≡◌, inl, inr, ℕ, ◌+◌, List, length, arith, Disk, Item, SameMap, map_of, IsWidthStep, Kept, item_of, World, KeepsOrEnds, map_at_end, Recorded, IsBegunAt, Past}
+use Rattle.schedule.proofs.Words.{◌≡◌, ℕ, ◌+◌, List, length, arith, Disk, Item, SameMap, map_of, IsWidthStep, Kept, item_of, World, KeepsOrEnds, map_at_end, Recorded, IsBegunAt, Past}
 use Rattle.core_state.specs.declared.item.Group.{Group as GroupItem}
 use Rattle.schedule.proofs.Recording.{after_few}
 
@@ -7,8 +7,7 @@ use Rattle.schedule.proofs.Recording.{after_few}
 steps_from : (item : GroupItem) (last next : Kept) (after : ℕ)
     → (last.uber.reflow.from ≡ item.from) × (last.uber.reflow.to ≡ item.to)
     → KeepsOrEnds last.uber.reflow next.uber.reflow → IsWidthStep ⊥ item (item_of next after)
-steps_from item last next after is (inl keeps) = inl (cc, cc)
-steps_from item last next after is (inr ends) = search arith
+steps_from item last next after is ends = grind arith
 
 -- A commit begins now: the group after the last one, with its widths or at the end of its expansion, and the map of all
 -- items.

@@ -1,5 +1,5 @@
 -- A group and the answer of the call that made it are listed at once.
-use Rattle.schedule.proofs.Words.{◌≡◌, inl, inr, ℕ, suc, ◌+◌, ◌<◌, ◌≤◌, List, [], ◌∷◌, ◌++◌, length, Some, refl, ap, arith, length-append, AllZip, cases_lt, Entry, Item, Group, Call, Map, PutBytes, GroupAt, IsGroupBefore, Calls, Follows, GroupsAreRight, IsAttachOf, Kept, Groups, IsGroupOf, groups_in, contains_none, grown_has, group_before_first, new_or_before, group_of_grown, width_step_where}
+use Rattle.schedule.proofs.Words.{◌≡◌, inl, inr, ℕ, suc, ◌<◌, ◌≤◌, List, [], ◌∷◌, ◌++◌, length, refl, ap, arith, length-append, AllZip, cases_lt, Entry, Item, Group, Call, Map, PutBytes, GroupAt, IsGroupBefore, Calls, Follows, GroupsAreRight, Kept, Groups, IsGroupOf, groups_in, contains_none, grown_has, group_before_first, new_or_before, group_of_grown, width_step_where}
 use Rattle.core_state.specs.declared.item.Group.{Group as GroupItem}
 
 same_group : {one other : GroupItem} → Group one ≡ Group other → one ≡ other
@@ -8,10 +8,7 @@ same_group is = cc
 -- The last group before an index is one alone.
 pub one_latest : {items : List Item} {index : ℕ} {one other : GroupItem} → IsGroupBefore items index one
     → IsGroupBefore items index other → one ≡ other
-one_latest {items = items} {one = one} {other = other} first second = search (same, cases_lt, arith)
-  where
-    same : Some (Group one) ≡ Some (Group other) → one ≡ other
-    same is = cc
+one_latest {items = items} {one = one} {other = other} first second = grind (arith, cases_lt)
 
 -- An answer is no group.
 groups_with_call : (items : List Item) (entry : Entry) → groups_in (items ++ Call entry ∷ []) ≡ groups_in items
@@ -24,8 +21,7 @@ each_later : (handed : PutBytes) (opening : Map) (items more part : List Item) (
     → ((index : ℕ) (group : GroupItem) → GroupAt part index group → group.after ≤ length items)
     → AllZip (IsGroupOf handed opening items) (groups_in part) answered
     → AllZip (IsGroupOf handed opening (items ++ more)) (groups_in part) answered
-each_later handed opening items more [] [] within each = each
-each_later handed opening items more [] (kept ∷ answered) within each = each
+each_later handed opening items more [] answered within each = each
 each_later handed opening items more (Call entry ∷ part) answered within each =
     each_later handed opening items more part answered (λ index group there. within (suc index) group there) each
 each_later handed opening items more (Group group ∷ part) [] within each = each
@@ -45,26 +41,15 @@ module _ (items : List Item) (group : GroupItem) (entry : Entry) where
       (follows : Follows with_both (length items) item group) where
     older : (index : ℕ) (before next : GroupItem) → index < length items → IsGroupBefore with_both index before
         → GroupAt items index next → Follows with_both index before next
-    older index before next low is there = record {
-      number = was.number;
-      later = was.later;
-      listed = was.listed;
-      widths = width_step_where before next grown was.widths;
-    }
-      where
-        first : IsGroupBefore items index before
-        first = search (group_before_first, length-append, arith)
-
-        was : Follows items index before next
-        was = right.each index before next first there
-
-        grown : IsAttachOf items (before.from + 1) next.group → IsAttachOf with_both (before.from + 1) next.group
-        grown is = (
-          is.0,
-          is.1,
-          search grown_has,
-          is.3,
-        )
+    older index before next low is there =
+        let first : IsGroupBefore items index before = search (group_before_first, length-append, arith) in
+        let was = right.each index before next first there in
+        record {
+          number = was.number;
+          later = was.later;
+          listed = was.listed;
+          widths = width_step_where before next (λ is. (is.0, is.1, search grown_has, is.3)) was.widths;
+        }
 
     newest : {index : ℕ} (before next : GroupItem) → index ≡ length items → group ≡ next
         → IsGroupBefore with_both index before → Follows with_both index before next
@@ -101,12 +86,4 @@ module _ (items : List Item) (group : GroupItem) (entry : Entry) where
   )
     where
       each_within : (index : ℕ) (other : GroupItem) → GroupAt with_group index other → other.after ≤ length with_group
-      each_within index other there = elim (new_or_before items (Group group) index (Group other) there) [
-        | inl new ↦ (omega (
-          arith,
-          ap (λ (g : GroupItem). g.after) (same_group new.1),
-          after,
-          length-append items (Group group ∷ []),
-        ))
-        | inr old ↦ search (length-append, arith)
-      ]
+      each_within index other there = search (new_or_before, same_group, length-append, after, arith)

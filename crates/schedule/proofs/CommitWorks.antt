@@ -1,5 +1,5 @@
 -- The works that make groups of the widths that are, or that end an expansion: those of a sync and of a copy.
-use Rattle.schedule.proofs.Words.{◌≡◌, ℕ, List, [], Some, None, refl, CommitRun, Kind, Item, Kept, World, ScriptCall, AttachRun, Commits, Work, IsGroupKind, HasBegun, HasBegunBy, HasContent, IsHoldOf, IsWorkFor, commit_in, held_by, made_in}
+use Rattle.schedule.proofs.Words.{◌≡◌, ℕ, List, [], Some, None, CommitRun, Kind, Item, Kept, World, ScriptCall, AttachRun, Commits, Work, IsGroupKind, HasBegun, HasBegunBy, HasContent, IsHoldOf, IsWorkFor, commit_in, held_by, made_in, arith}
 use Rattle.core_state.specs.declared.answer.Kind.TheVariants as kind
 use Rattle.core_state.specs.declared.item.Group.{Group as GroupItem}
 use Rattle.schedule.specs.declared.client.Work.TheVariants as work
@@ -22,31 +22,7 @@ pub record MakesGroups (asked : Kind) (does : CommitRun → Work) : Type 0 where
   pub kind : IsGroupKind asked
 
 pub sync_makes : MakesGroups kind.Sync (λ run. work.Sync run)
-sync_makes = record {
-  holds = λ run. refl;
-  commit = λ run. refl;
-  made = λ run. refl;
-  no_attach = λ run attach same. cc;
-  its = λ index run. tt;
-  for = λ call run is. is;
-  is = λ call run is. is;
-  begins = λ world items item begun at run its. its;
-  begun = λ world items item begun at run its. its;
-  content = λ world items call at content run. tt;
-  kind = tt;
-}
+sync_makes = grind arith
 
 pub copy_makes : MakesGroups kind.Copy (λ run. work.Copy (Commits run))
-copy_makes = record {
-  holds = λ run. refl;
-  commit = λ run. refl;
-  made = λ run. refl;
-  no_attach = λ run attach same. cc;
-  its = λ index run. tt;
-  for = λ call run is. is;
-  is = λ call run is. is;
-  begins = λ world items item begun at run its. its;
-  begun = λ world items item begun at run its. its;
-  content = λ world items call at content run. tt;
-  kind = tt;
-}
+copy_makes = grind arith

@@ -1,8 +1,8 @@
 -- The clients' calls under way are calls of the core still, after a client's next turn.
-use Rattle.schedule.proofs.Words.{◌≡◌, ◌≢◌, ◌⊎◌, inl, inr, ⊎_elim, ℕ, ◌-◌, List, Some, None, sym, ◌∙◌, subst, slice_get, CommitRun, ScriptCall, Script, calls_of, AttachRun, IsAttachRunOf, Core, HasTooManyOut, IsCommitOf, AreCallsOf, IsBeforeCommit, attach_at_begin, Client, UnderWay, Changes, AreGoing, IsGoing, IsHoldOf, IsWorkFor, IsWorkOf, MakesCommit, calls_under_way, commit_in}
+use Rattle.schedule.proofs.Words.{◌≡◌, ◌≢◌, ◌⊎◌, inl, inr, ℕ, ◌-◌, List, Some, None, sym, ◌∙◌, subst, slice_get, CommitRun, ScriptCall, Script, calls_of, AttachRun, IsAttachRunOf, Core, HasTooManyOut, IsCommitOf, AreCallsOf, IsBeforeCommit, attach_at_begin, Client, UnderWay, Changes, AreGoing, IsGoing, IsHoldOf, IsWorkFor, IsWorkOf, MakesCommit, calls_under_way, commit_in, arith}
 use Rattle.schedule.specs.declared.client.Work.TheVariants as work
 use Rattle.schedule.proofs.LeavesPool.{KeepsCommit}
-use Rattle.schedule.proofs.Theirs.{IsNoAttach, IsNoCommit, OnlyIt, apart_of_commit, before_commit, each_going, going_on, makes_commit, no_one, none_some, run_of, same_attach, some_is, the_one}
+use Rattle.schedule.proofs.Theirs.{IsNoAttach, IsNoCommit, OnlyIt, apart_of_commit, before_commit, each_going, going_on, makes_commit, no_one, run_of, same_attach, some_is, the_one}
 
 -- What a sync's turn leaves of an attach that has begun no commit.
 pub record KeepsAttach (core now : Core) : Type 0 where
@@ -76,10 +76,7 @@ module _ {script : Script} {core now : Core} {clients news : List Client} {index
 
   one_commits : now.committing ≡ core.committing → (HasTooManyOut core → HasTooManyOut now) → IsNoCommit old.under_way
       → OneCommits
-  one_commits committing many none actor is = ⊎_elim (λ out. inl (many out))
-      (λ found.
-      let apart = apart_of_commit was changes none found.3 (makes_commit found.1.work found.4) in
-      inr (found.0, found.1, found.2, going_on was changes apart found.3, found.4)) (going.one actor (cc))
+  one_commits committing many none actor is = search (apart_of_commit, makes_commit, going_on, arith)
 
   -- and the attach, which is another's;
   others_attach : KeepsCommit core now → OthersAttach
@@ -87,13 +84,7 @@ module _ {script : Script} {core now : Core} {clients news : List Client} {index
       let was = (going.each caller its under is).attach run does in (keeps.attaches run was.0, cc)
 
   one_attaches : IsNoAttach old.under_way → now.attaching ≡ core.attaching → OneAttaches
-  one_attaches none attaching actor is = let found = going.attaches actor (cc) in (
-    found.0,
-    found.1,
-    found.2,
-    going_on was changes (λ same. none found.1 found.2 (cc) found.4) found.3,
-    found.4,
-  )
+  one_attaches none attaching actor is = search (going_on, arith)
 
   -- or it is the client's.
   own_attaches : {under : UnderWay} {run : AttachRun} → client.under_way ≡ Some under → under.work ≡ work.Attach run
@@ -112,16 +103,14 @@ module _ {script : Script} {core now : Core} {clients news : List Client} {index
   -- has no work.
   pub goes : KeepsCommit core now → IsNoCommit old.under_way → IsNoAttach old.under_way → Mine
       → AreGoing script now news
-  goes keeps none no_attach mine = all_go (others_commit keeps.committing keeps.commits) (others_attach keeps) mine
-      (one_commits keeps.committing keeps.many none) (one_attaches no_attach keeps.attaching)
+  goes keeps none no_attach mine = search (all_go, others_commit, others_attach, one_commits, one_attaches, arith)
 
   -- An attach that makes no commit goes on.
   pub attach_goes : KeepsCommit core now → IsNoCommit old.under_way → {under : UnderWay} (run : AttachRun)
       → client.under_way ≡ Some under → under.work ≡ work.Attach run → now.attaching ≡ Some index
       → IsWorkOf script now index client under.work → AreGoing script now news
   attach_goes keeps none run client_is does attaching mine =
-      all_go (others_commit keeps.committing keeps.commits) (others_attach keeps) (mine_is client_is mine)
-      (one_commits keeps.committing keeps.many none) (own_attaches client_is does attaching)
+      search (all_go, others_commit, others_attach, mine_is, one_commits, own_attaches, attaching)
 
   -- An attach begins where none is under way, and no commit.
   pub attach_begins : core.attaching ≡ None → now.committing ≡ None → (under : UnderWay) (run : AttachRun)

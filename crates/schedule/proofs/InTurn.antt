@@ -1,7 +1,7 @@
 -- Whose turn is next, and steps after steps.
-use Rattle.schedule.proofs.Words.{◌≡◌, ℕ, ◌+◌, ◌<◌, ◌≤◌, List, length, Option, Some, None, zero, suc, refl, arith, [], ◌++◌, append_assoc, length-append, ◌∷◌, true, ◌||◌, is_some, slice_get, lt-ltb, le-ltb, ltb-true, ltb-false, slice_get_within, append-nil, Script, Client, UnderWay, Goes, HasGone, InRest, InRound, IsCallOfScript, Replay, ReplaySteps, after_round, cursor_after, has_left, has_left_at, is_any_busy, is_busy_at, is_under_way, turn_at, HaveTaken, IsTurnOf, IsStepOf, AreIdle, TurnTaken, Turns, last_left}
+use Rattle.schedule.proofs.Words.{◌≡◌, ℕ, ◌+◌, ◌<◌, ◌≤◌, List, length, Option, Some, None, zero, suc, refl, arith, [], ◌++◌, append_assoc, length-append, ◌∷◌, true, slice_get, le-ltb, ltb-true, ltb-false, slice_get_within, append-nil, Script, Client, Goes, HasGone, InRest, InRound, Replay, ReplaySteps, after_round, has_left_at, is_any_busy, is_busy_at, turn_at, HaveTaken, IsTurnOf, IsStepOf, AreIdle, TurnTaken, Turns, last_left}
 use Rattle.std.proofs.Common.{append-nil}
-use Rattle.std.specs.Prelude.{Bool, false, if◌then◌else◌}
+use Rattle.std.specs.Prelude.{false}
 
 -- ---- steps
 
@@ -17,12 +17,7 @@ gone_more {middle = middle} {passed = passed} gone step =
 step_after : (script : Script) (before after : Replay) (earlier passed more : List TurnTaken)
     → ReplaySteps script before passed more after → ReplaySteps script before (earlier ++ passed)
     (earlier ++ more) after
-step_after script before after earlier passed more step = search by
-  where
-    by : (whose : Option ℕ) → IsStepOf script before passed more after whose
-        → IsStepOf script before (earlier ++ passed) (earlier ++ more) after whose
-    by None is = search
-    by (Some actor) is = search (append_assoc, arith)
+step_after script before after earlier passed more step = grind (arith, append_assoc)
 
 pub gone_then : (script : Script) (start middle now : Replay) {one two : List TurnTaken}
     → HasGone script start one middle → HasGone script middle two now → HasGone script start (one ++ two) now
@@ -30,8 +25,8 @@ gone_then script start middle now {one = one} {two = two} first second = by seco
   where
     by : (steps : ℕ) (end : Replay) (more : List TurnTaken) → Goes script steps middle more end
         → HasGone script start (one ++ more) end
-    by zero end more goes = search (append-nil, one, arith)
-    by (suc steps) end more goes = gone_more (by steps goes.0 goes.1 goes.2) (search (step_after, one))
+    by zero end more goes = search (append-nil, arith)
+    by (suc steps) end more goes = gone_more (by steps goes.0 goes.1 goes.2) (search step_after)
 
 -- ---- what the turns are
 
@@ -55,8 +50,7 @@ record AreTaken (script : Script) (start now : Replay) (passed : List TurnTaken)
 step_taken : {script : Script} {start middle end : Replay} {before more : List TurnTaken} (whose : Option ℕ)
     → IsStepOf script middle before more end whose → AreTaken script start middle before
     → AreTaken script start end more
-step_taken None step taken = search arith
-step_taken (Some actor) step taken = search (taken_more, left_more, length-append, arith)
+step_taken whose step taken = grind (arith, taken_more, left_more, length-append)
 
 goes_taken : {script : Script} {start : Replay} (steps : ℕ) (end : Replay) (passed : List TurnTaken)
     → Goes script steps start passed end → AreTaken script start end passed
@@ -74,30 +68,18 @@ gone_counted {now = now} {passed = passed} gone = (goes_taken gone.steps now pas
 
 -- ---- clients
 
-none_under_way : (its : Option UnderWay) → is_some its ≡ false → its ≡ None
-none_under_way None is = refl
-none_under_way (Some under) is = cc
-
 -- A client that has no call under way is idle,
 pub not_busy_idle : (clients : List Client) (actor : ℕ) → is_busy_at clients actor ≡ false → (client : Client)
     → slice_get clients actor ≡ Some client → client.under_way ≡ None
-not_busy_idle clients actor free client there = search (none_under_way, arith)
+not_busy_idle clients actor free client there = grind arith
 
 -- as is each where all are,
 pub idle_not_busy : {clients : List Client} (actor : ℕ) → AreIdle clients → is_busy_at clients actor ≡ false
-idle_not_busy {clients = clients} actor idle = by (slice_get clients actor) refl
-  where
-    by : (found : Option Client) → slice_get clients actor ≡ found → is_under_way found ≡ false
-    by None is = refl
-    by (Some client) is = search arith
+idle_not_busy {clients = clients} actor idle = grind (arith, idle.each)
 
 -- and one that isn't there has none.
 pub past_not_busy : (clients : List Client) {actor : ℕ} → length clients ≤ actor → is_busy_at clients actor ≡ false
-past_not_busy clients {actor = actor} past = by (slice_get clients actor) refl
-  where
-    by : (found : Option Client) → slice_get clients actor ≡ found → is_under_way found ≡ false
-    by None is = refl
-    by (Some client) is = search (slice_get_within, arith)
+past_not_busy clients {actor = actor} past = grind (arith, slice_get_within)
 
 -- A client has a call left where it hasn't begun that,
 pub left_begun : (clients : List Client) (actor : ℕ) {number : ℕ} → has_left_at clients actor number ≡ true
@@ -112,11 +94,7 @@ none_left_begun clients actor number none client there = search (ltb-false, arit
 pub begun_none_left : (clients : List Client) (actor number : ℕ)
     → ((client : Client) → slice_get clients actor ≡ Some client → number ≤ client.begun)
     → has_left_at clients actor number ≡ false
-begun_none_left clients actor number begun = by (slice_get clients actor) refl
-  where
-    by : (found : Option Client) → slice_get clients actor ≡ found → has_left found number ≡ false
-    by None is = refl
-    by (Some client) is = le-ltb client.begun number (begun client is)
+begun_none_left clients actor number begun = grind (arith, le-ltb, begun)
 
 -- ---- rounds
 

@@ -1,5 +1,5 @@
 -- Turns that call no device, and leave all of the core but blocks and holds.
-use Rattle.schedule.proofs.Words.{◌≡◌, ℕ, List, refl, sym, ap, subst, arith, Disk, Hold, Gains, IsWithin, Blocks, CommitRun, AttachRun, CopyRun, IsAttachRunOf, Core, IsCore, at_disk, HasTooManyOut, IsCommitOf, BeginsJobSo, DropsJob, EndsJob, IsJobOf, AreCallsOf, Copying, HoldingCall, TurnGoesOn, count_grows, attach_kept, attach_still, turn_still, OnlyOut, LeavesCommit, commit_still, out_leaves, KeepsAlone, keeps_same, job_ends_commit, job_begins_alone, job_drops_alone}
+use Rattle.schedule.proofs.Words.{◌≡◌, ℕ, List, refl, sym, ap, subst, arith, Disk, Hold, Gains, IsWithin, Blocks, CommitRun, AttachRun, CopyRun, IsAttachRunOf, Core, IsCore, at_disk, HasTooManyOut, IsCommitOf, BeginsJobSo, DropsJob, EndsJob, IsJobOf, AreCallsOf, Copying, HoldingCall, TurnGoesOn, count_grows, attach_kept, attach_still, turn_still, OnlyOut, LeavesCommit, commit_still, out_leaves, KeepsAlone, keeps_same, job_ends_commit, job_begins_alone, job_drops_alone, Option}
 
 -- A turn leaves the devices that are out, the uberblock, and the commit and the attach that are under way.
 pub record LeavesPool (old new : Core) : Type 0 where
@@ -7,63 +7,29 @@ pub record LeavesPool (old new : Core) : Type 0 where
   pub attaching : new.attaching ≡ old.attaching
   pub commit : LeavesCommit old new
 
--- So it is where only blocks and holds changed, and what a commit holds is held still.
+-- So it is where only blocks, holds and who copies changed, and what a commit holds is held still,
+leaves_rest : {old new : Core} {blocks : Blocks} {holds : List Hold} {copying : Option ℕ}
+    → new ≡ record old { pool = record old.pool { blocks = blocks }; holds = holds; copying = copying }
+    → KeepsAlone old.pool.done old.holds new.holds → LeavesPool old new
+leaves_rest {old} {new} {blocks} {holds} {copying} core alone = grind arith
+
 pub leaves_pool : (old new : Core) (blocks : Blocks) (holds : List Hold)
     → new ≡ record old { pool = record old.pool { blocks = blocks }; holds = holds }
     → KeepsAlone old.pool.done old.holds new.holds → LeavesPool old new
-leaves_pool old new blocks holds core alone = record {
-  out = out;
-  attaching = cc;
-  commit = record {
-    uber = ap (λ (c : Core). c.pool.uber) core;
-    done = ap (λ (c : Core). c.pool.done) core;
-    begun = cc;
-    committing = cc;
-    reach = cc;
-    within = search out;
-    holds = alone;
-  };
-}
-  where
-    out : new.pool.out ≡ old.pool.out
-    out = ap (λ (c : Core). c.pool.out) core
+leaves_pool old new blocks holds core alone = leaves_rest core alone
 
--- So it is where only blocks changed.
+-- where only blocks did,
 pub holds_left : {old new : Core} {blocks : Blocks} → new ≡ record old { pool = record old.pool { blocks = blocks } }
     → LeavesPool old new
 holds_left core = search (leaves_pool, keeps_same, arith)
 
--- So it is where a job begins, or is given up.
+-- and where a job begins, or is given up.
 pub job_begun_leaves : {old new : Core} {run : CopyRun} {actor : ℕ} → BeginsJobSo old new actor run → LeavesPool old new
-job_begun_leaves begins = record {
-  out = cc;
-  attaching = cc;
-  commit = record {
-    uber = cc;
-    done = cc;
-    begun = cc;
-    committing = cc;
-    reach = cc;
-    within = search arith;
-    holds = job_begins_alone begins;
-  };
-}
+job_begun_leaves begins = leaves_rest begins.rest (job_begins_alone begins)
 
 pub job_dropped_leaves : {old new : Core} {run : CopyRun} → IsCore old → IsJobOf old run → DropsJob old new run
     → LeavesPool old new
-job_dropped_leaves is of drops = record {
-  out = cc;
-  attaching = cc;
-  commit = record {
-    uber = cc;
-    done = cc;
-    begun = cc;
-    committing = cc;
-    reach = cc;
-    within = search arith;
-    holds = job_drops_alone is drops of;
-  };
-}
+job_dropped_leaves is of drops = leaves_rest drops.rest (job_drops_alone is drops of)
 
 -- What a turn leaves of the commit and of the attach that are under way.
 pub record KeepsCommit (old new : Core) : Type 0 where
@@ -75,14 +41,7 @@ pub record KeepsCommit (old new : Core) : Type 0 where
 
 -- They are kept where they are left,
 keeps_left : {old new : Core} → LeavesCommit old new → new.attaching ≡ old.attaching → KeepsCommit old new
-keeps_left {old} {new} leaves attaching = record {
-  committing = leaves.committing;
-  attaching = attaching;
-  commits = λ run. commit_still old new leaves;
-  attaches = λ run. attach_still old new run leaves attaching;
-  many = λ many.
-      search (count_grows, many, arith);
-}
+keeps_left {old} {new} leaves attaching = search (commit_still, attach_still, count_grows, arith)
 
 -- as by a turn that leaves the pool,
 pub leaves_commit : {old new : Core} → LeavesPool old new → KeepsCommit old new
@@ -114,10 +73,4 @@ job_ended_keeps old new is ends gains are = record {
 
 -- They are kept where nothing changed.
 pub same_keeps : (old : Core) {now : Core} → now ≡ old → KeepsCommit old now
-same_keeps old same = rw same (record {
-  committing = refl;
-  attaching = refl;
-  commits = λ run of. of;
-  attaches = λ run of. of;
-  many = λ many. many;
-})
+same_keeps old same = rw same (search)

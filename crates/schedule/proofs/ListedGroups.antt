@@ -1,5 +1,5 @@
 -- What a stop leaves once a group was listed shows that group, so no run commits later than it lists.
-use Rattle.schedule.proofs.Words.{take, ◌∙◌, ap, arith, Image, Disk, Uber, Item, IsGroupBefore, Shows, Kept, Setting, MightStand, Script, RunKeeps}
+use Rattle.schedule.proofs.Words.{take, arith, Image, Disk, Uber, Item, IsGroupBefore, Shows, Kept, Setting, MightStand, Script, RunKeeps}
 use Rattle.std.specs.Prelude.{◌≡◌, ℕ, ◌<◌, ◌≤◌, List, length}
 use Rattle.core_state.specs.declared.item.Group.{Group as GroupItem}
 use Rattle.schedule.proofs.BothListed.{one_latest}
@@ -19,13 +19,9 @@ module _ {script : Script} {setting : Setting} {first : Kept} {later : List Kept
   pub listed_is_shown : IsShown setting image group
   listed_is_shown =
       let until = run.no_older.each count some few in
-      let stands = (until.kept.keeps image left).there in (
-        stands.device,
-        stands.shown.0,
-        stands.shown.2.shows,
-        stands.shown.1 ∙ until.kept.last_is.number ∙ ap (λ (item : GroupItem). item.group)
-            (one_latest until.kept.latest last),
-      )
+      let stands = (until.kept.keeps image left).there in
+      let same = one_latest until.kept.latest last in
+      (stands.device, stands.shown.0, stands.shown.2.shows, cc)
 
   -- So where a stop leaves older groups alone, as of a run that commits all at its end, no such promise is met.
   pub commits_come_first : ((device : ℕ) (uber : Uber) → Shows setting.shape image device uber

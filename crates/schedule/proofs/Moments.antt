@@ -15,9 +15,8 @@ pub record AreLatest (calls : Calls) (handed : PutBytes) (opening : Map) (known 
 pub since_any_reach : (setting : Setting) {groups : List Kept} {time : ℕ} {disk : Disk} {reach other : ℕ}
     → KeepsSince (record setting { reach = reach }) groups time disk
     → KeepsSince (record setting { reach = other }) groups time disk
-since_any_reach setting {reach = reach} kept = record {
-  each = λ moment image from until might. search (until, arith);
-}
+since_any_reach setting {groups = groups} {time = time} {disk = disk} {reach = reach} {other = other} kept = search
+    (kept.each, arith)
 
 -- A group and those after it are a row of themselves.
 pub whole_row : (first : Kept) (later : List Kept) → IsRowOf (first ∷ later) first later
@@ -30,15 +29,7 @@ module _ {setting : Setting} {calls : Calls} {handed : PutBytes} {opening : Map}
       → Later now next
       → (KeepsSince setting (last ∷ begun) from.clock now → KeepsSince setting (last ∷ begun) from.clock next)
       → KeepsOn setting calls handed opening items item last begun from next
-  on_goes on later keeps = record {
-    later = later_trans on.later later;
-    first = on.first;
-    one = on.one;
-    first_is = on.first_is;
-    reach = on.reach;
-    keeps = on.keeps;
-    since = keeps on.since;
-  }
+  on_goes {from} {now} {next} on later keeps = search (later_trans, arith)
 
   -- Groups that are begun are no loss.
   pub on_wider : {from now : Disk} (more : List Kept) → KeepsOn setting calls handed opening items item last begun from
@@ -129,4 +120,4 @@ module _ {setting : Setting} {calls : Calls} {handed : PutBytes} {opening : Map}
   -- or the run ends with it.
   pub kept_to_end : past.banks (length items + 1) ≡ now
       → KeepsTurnByTurn setting calls handed opening known items past now
-  kept_to_end next = search until
+  kept_to_end next = search (until, arith)

@@ -1,6 +1,5 @@
 -- The journal of an only client follows the lines of the script, whoever's turns they were.
-use Rattle.schedule.proofs.Words.{◌≡◌, ◌⊎◌, inl, inr, ⊎_elim, ℕ, zero, suc, ◌+◌, ◌-◌, ◌<◌, ◌≤◌, List, [], ◌∷◌, ◌++◌, length, Option, Some, None, Bool, refl, sym, ◌∙◌, ap, subst, arith, slice_get, filter, map, not, replicate, take, All, ◌==◌, ⊤, append-nil, length-map, length-replicate, replicate_more, length-filter_both, slice_get_within, Answer, Kind, Entry, Item, Group, Call, CallAt, GroupAt, IsAnswerOf, CommitRun, ScriptCall, Placed, Script, calls_of, Rests, Copies, Commits, Turn, More, Busy, Done, Core, CoreState, point_after, new_or_before, Client, UnderWay, Work, answered_of, HaveTaken, IsTurnOf, FollowsLines, callers_in, Station, Turned, Nothing, Began, Went, BeginsCall, BeginsWork, GoesOnBy, LeavesBegun, LeavesGoing, entry_for, group_by, group_for, listed_for, listed_of, listed_on, begun_at, made_by, made_in, Turns, TurnTaken, last_left, first_turns}
-use Rattle.core_state.specs.declared.answer.Answer.TheVariants as answer
+use Rattle.schedule.proofs.Words.{◌≡◌, ◌⊎◌, inl, inr, ℕ, zero, suc, ◌+◌, ◌-◌, ◌<◌, ◌≤◌, List, [], ◌∷◌, ◌++◌, length, Option, Some, None, Bool, refl, sym, ◌∙◌, ap, subst, arith, slice_get, filter, map, not, replicate, take, All, ◌==◌, ⊤, append-nil, length-map, length-replicate, replicate_more, length-filter_both, slice_get_within, Answer, Kind, Entry, Item, Group, Call, CallAt, GroupAt, IsAnswerOf, ScriptCall, Placed, Script, calls_of, Rests, Copies, Turn, More, Busy, Done, Core, CoreState, point_after, new_or_before, Client, UnderWay, Work, answered_of, HaveTaken, IsTurnOf, FollowsLines, callers_in, Station, Turned, Nothing, Began, Went, BeginsCall, BeginsWork, GoesOnBy, LeavesBegun, LeavesGoing, entry_for, group_by, group_for, listed_for, listed_of, listed_on, begun_at, made_by, made_in, Turns, TurnTaken, last_left, first_turns}
 use Rattle.core_state.specs.declared.answer.Kind.TheVariants as kind
 use Rattle.core_state.specs.declared.item.Group.{Group as GroupItem}
 use Rattle.schedule.specs.declared.client.Work.TheVariants as work
@@ -9,7 +8,7 @@ use Rattle.schedule.proofs.CopyUses.{copy_plain}
 use Rattle.schedule.proofs.UsingEnds.{EndsPlainly}
 use Rattle.schedule.proofs.UsingWorks.{plain_listed}
 use Rattle.schedule.proofs.Opened.{blank_is}
-use Rattle.schedule.proofs.Theirs.{none_some, some_is}
+use Rattle.schedule.proofs.Theirs.{some_is}
 
 -- ---- a journal that follows the lines, and an item more
 
@@ -18,14 +17,8 @@ callers_more [] more = refl
 callers_more (Group group ∷ items) more = callers_more items more
 callers_more (Call entry ∷ items) more = ap (λ (l : List ℕ). entry.caller ∷ l) (callers_more items more)
 
-group_is : {one other : GroupItem} → Group one ≡ Group other → one ≡ other
-group_is is = cc
-
 call_is : {one other : Entry} → Call one ≡ Call other → one ≡ other
 call_is is = cc
-
-no_call : {group : GroupItem} {entry : Entry} → Group group ≡ Call entry → ⊥
-no_call is = cc
 
 -- So many calls of an only client are answered, if each answer is of its call's kind.
 record Follows (items : List Item) (answered : ℕ) : Type 0 where
@@ -37,23 +30,12 @@ record Follows (items : List Item) (answered : ℕ) : Type 0 where
 -- A call with a group speaks of no point.
 no_point : (asked : Kind) (made : Option ℕ) (given : Answer) (number before now : ℕ) → group_by given made ≡ Some number
     → IsAnswerOf asked given → point_after asked before given ≡ point_after asked now given
-no_point asked made (answer.Synced group) number before now is of = cc
-no_point asked made (answer.Attached width group) number before now is of = cc
-no_point asked made (answer.NewDeviceFailed device) number before now is of = cc
-no_point asked made (answer.DeviceOut device) number before now is of = cc
-no_point asked made other number before now is of = cc
+no_point asked made given number before now is of = grind arith
 
 module _ {items : List Item} {answered : ℕ} (follows : Follows items answered) where
   -- A group that has all items before it answers no call,
   follows_group : (group : GroupItem) → group.after ≡ length items → Follows (items ++ Group group ∷ []) answered
-  follows_group group after = record {
-    callers = search (callers_more, group, append-nil);
-    reads = λ index entry there fits. elim (new_or_before items (Group group) index (Call entry) there) [
-      | inl last ↦ cc
-      | inr before ↦ follows.reads index entry before.1 fits
-    ];
-    groups = search (new_or_before, group, group_is, arith);
-  }
+  follows_group group after = search (callers_more, append-nil, new_or_before, arith)
 
   -- and an entry of the client, which speaks of all items before it, answers one more.
   follows_call : (entry : Entry) → entry.caller ≡ 0
@@ -96,92 +78,41 @@ record GoesAlone (script : Script) (items : List Item) (client : Client) : Type 
 
 -- ---- a turn
 
--- Where nothing was listed meanwhile a group began after all items.
-begun_now : (does was : Option CommitRun) {at now : ℕ} → at ≡ now → begun_at does was at now ≡ now
-begun_now None was same = same
-begun_now (Some run) None same = refl
-begun_now (Some run) (Some before) same = same
-
 -- What began when all items had been listed is at their end, whatever it does.
 at_end : (does : Work) {at now : ℕ} → at ≡ now → AtEndOf does at now
-at_end (work.Copy (Rests actor made)) same = tt
-at_end (work.Copy (Copies run)) same = tt
-at_end (work.Copy (Commits run)) same = same
-at_end (work.Put run) same = same
-at_end (work.Read run) same = same
-at_end (work.Sync run) same = same
-at_end (work.Attach run) same = same
+at_end does same = grind arith
 
 -- A copy that has made a group rests.
 made_rests : (does : Work) {number : ℕ} (at now : ℕ) → made_in does ≡ Some number → AtEndOf does at now
-made_rests (work.Copy (Rests actor made)) at now is = tt
-made_rests other at now is = cc
+made_rests does at now is = grind arith
 
 module _ (before after : CoreState) (call : ScriptCall) where
   -- A call that goes on is at their end as it was, or as its commit began,
   went_at_end : (does next : Work) (at now : ℕ) → GoesOnBy before after call does (More next) → AtEndOf does at now
       → AtEndOf next (begun_at (commit_in next) (commit_in does) at now) now
-  went_at_end (work.Copy (Rests actor made)) (work.Copy (Rests whose next)) at now goes end = tt
-  went_at_end (work.Copy (Rests actor made)) (work.Copy (Copies next)) at now goes end = tt
-  went_at_end (work.Copy (Rests actor made)) (work.Copy (Commits next)) at now goes end = refl
-  went_at_end (work.Copy (Copies run)) (work.Copy (Rests whose next)) at now goes end = tt
-  went_at_end (work.Copy (Copies run)) (work.Copy (Copies next)) at now goes end = tt
-  went_at_end (work.Copy (Copies run)) (work.Copy (Commits next)) at now goes end = cc
-  went_at_end (work.Copy (Commits run)) (work.Copy (Rests whose next)) at now goes end = tt
-  went_at_end (work.Copy (Commits run)) (work.Copy (Copies next)) at now goes end = tt
-  went_at_end (work.Copy (Commits run)) (work.Copy (Commits next)) at now goes end = end
-  went_at_end (work.Put run) (work.Put next) at now goes end = end
-  went_at_end (work.Read run) (work.Read next) at now goes end = end
-  went_at_end (work.Sync run) (work.Sync next) at now goes end = end
-  went_at_end (work.Attach run) (work.Attach next) at now goes end = search begun_now
-  went_at_end does next at now goes end = absurd goes
+  went_at_end does next at now goes end = grind arith
 
   -- and the commit of a group that is listed began there.
   made_at_end : (does next : Work) (at : ℕ) {now number : ℕ} → GoesOnBy before after call does (More next)
       → made_in next ≡ Some number → AtEndOf does at now → begun_at (commit_in next) (commit_in does) at now ≡ now
-  made_at_end (work.Copy (Rests actor made)) (work.Copy (Rests whose next)) at goes is end = cc
-  made_at_end (work.Copy (Copies run)) (work.Copy (Rests whose next)) at goes is end =
-      absurd (none_some (sym goes.0.0.1 ∙ is))
-  made_at_end (work.Copy (Commits run)) (work.Copy (Rests whose next)) at goes is end = end
-  made_at_end (work.Copy round) (work.Copy (Copies next)) at goes is end = cc
-  made_at_end (work.Copy round) (work.Copy (Commits next)) at goes is end = absurd (none_some is)
-  made_at_end (work.Put run) (work.Put next) at goes is end = absurd (none_some is)
-  made_at_end (work.Read run) (work.Read next) at goes is end = absurd (none_some is)
-  made_at_end (work.Sync run) (work.Sync next) at goes is end = absurd (none_some is)
-  made_at_end (work.Attach run) (work.Attach next) at goes is end = absurd (none_some is)
-  made_at_end does next at goes is end = absurd goes
+  made_at_end does next at goes is end = grind arith
 
   -- What goes on is a copy if it was one.
   still_copy : (does next : Work) → GoesOnBy before after call does (More next) → IsCopyFor call.kind does
       → IsCopyFor call.kind next
-  still_copy (work.Copy round) (work.Copy next) goes of = of
-  still_copy (work.Put run) (work.Put next) goes of = tt
-  still_copy (work.Read run) (work.Read next) goes of = tt
-  still_copy (work.Sync run) (work.Sync next) goes of = tt
-  still_copy (work.Attach run) (work.Attach next) goes of = tt
-  still_copy does next goes of = absurd goes
+  still_copy does next goes of = grind arith
 
   -- A call that ends began when all items had been listed, or is a copy, which is answered without a group, and speaks
   -- of no point.
   ends_right : (does : Work) {given : Answer} {at now : ℕ} → GoesOnBy before after call does (Done given)
       → AtEndOf does at now → IsCopyFor call.kind does → (at ≡ now) ⊎ (EndsPlainly given (made_by does)
       × (point_after call.kind at given ≡ point_after call.kind now given))
-  ends_right (work.Copy round) goes end of = search (copy_plain, arith)
-  ends_right (work.Put run) goes end of = inl end
-  ends_right (work.Read run) goes end of = inl end
-  ends_right (work.Sync run) goes end of = inl end
-  ends_right (work.Attach run) goes end of = inl end
+  ends_right does goes end of = grind (arith, copy_plain)
 
 -- A call that begins is a copy where it is to be one.
 begun_copy : (old new : Core) (devices actor : ℕ) (call : ScriptCall) (asked : Kind) (id : Option ℕ) (does : Work)
     → BeginsWork old new devices actor call asked id does → IsCopyFor asked does
-begun_copy old new devices actor call kind.Put (Some id) (work.Put run) begins = tt
-begun_copy old new devices actor call kind.Get (Some id) (work.Read run) begins = tt
-begun_copy old new devices actor call kind.Sum (Some id) (work.Read run) begins = tt
-begun_copy old new devices actor call kind.Sync None (work.Sync run) begins = tt
-begun_copy old new devices actor call kind.Attach None (work.Attach run) begins = tt
-begun_copy old new devices actor call kind.Copy None (work.Copy round) begins = refl
-begun_copy old new devices actor call asked id does begins = absurd begins
+begun_copy old new devices actor call asked id does begins = grind arith
 
 module _ {script : Script} (before after : Station) (goes : GoesAlone script before.items before.client) where
   abbrev Now : List Item → Client → Type 0
@@ -203,22 +134,17 @@ module _ {script : Script} (before after : Station) (goes : GoesAlone script bef
       → begun - 1 ≡ answered → 1 ≤ begun → begun ≤ length (calls_of script 0)
       → AtEndOf under.work under.at (length items) → slice_get (calls_of script 0) (begun - 1) ≡ Some call
       → IsCopyFor call.kind under.work → Now items (record { begun = begun; under_way = Some under })
-  goes_on_from {under = under} follows counted some few began is of = record {
+  goes_on_from {begun = begun} {under = under} {call} {items} follows counted some few began is of = record {
     follows = rw counted follows;
     few = few;
-    under = search (some_is, began, arith);
-    asked = λ now other going asked. search (some_is, asked, arith);
+    under = search arith;
+    asked = search arith;
   }
 
   -- or is answered.
   ends_as : {begun : ℕ} (items : List Item) → Follows items (answered + 1) → begun ≡ answered + 1
       → begun ≤ length (calls_of script 0) → Now items (record { begun = begun; under_way = None })
-  ends_as items follows counted few = record {
-    follows = rw counted follows;
-    few = few;
-    under = λ its going. cc;
-    asked = λ its call going is. absurd (none_some going);
-  }
+  ends_as {begun} items follows counted few = grind arith
 
   -- An answer alone,
   answers_alone : (call : ScriptCall) (number : ℕ) {begun : ℕ} (answer : Answer) → begun ≡ answered + 1
@@ -241,7 +167,7 @@ module _ {script : Script} (before after : Station) (goes : GoesAlone script bef
           → Now (listed_of core.pool.uber.reflow before.items (length before.items) entry group)
           (record { begun = begun; under_way = None })
       by None is = answers_alone call number given counted few
-      by (Some group) is = ends_as _ (search (follows_call, follows_group, group, entry, no_point)) counted few
+      by (Some group) is = ends_as _ (search (follows_call, follows_group, entry, no_point)) counted few
 
   begins : (turn : Turn Work) (call : ScriptCall) → before.client.under_way ≡ None
       → slice_get (calls_of script 0) before.client.begun ≡ Some call
@@ -256,13 +182,12 @@ module _ {script : Script} (before after : Station) (goes : GoesAlone script bef
       (answers_alone call (before.client.begun + 1) answer (let counted = answered_by idle in omega (arith, counted))
       (let low = slice_get_within (calls_of script 0) before.client.begun call is in omega (arith, low)))
 
-  -- A call goes on, and lists the group that it made, if it made one.
-  goes_on : (call : ScriptCall) (under : UnderWay) (does : Work) → before.client.under_way ≡ Some under
+  -- A call goes on, and lists the group that it made, if it made one, or is answered.
+  goes_further : (turn : Turn Work) (call : ScriptCall) (under : UnderWay) → before.client.under_way ≡ Some under
       → slice_get (calls_of script 0) (before.client.begun - 1) ≡ Some call
-      → GoesOnBy before.state after.state call under.work (More does)
-      → LeavesGoing 0 call before after under (More does) → {made : Option ℕ} → made_in does ≡ made
-      → Now after.items after.client
-  goes_on call under does going is did leaves is_made = search (moved, began, by)
+      → GoesOnBy before.state after.state call under.work turn
+      → LeavesGoing 0 call before after under turn → Now after.items after.client
+  goes_further (More does) call under going is did leaves = moved leaves.0 leaves.1 (by (made_in does) refl)
     where
       has : AtEndOf under.work under.at (length before.items) × (1 ≤ before.client.begun)
       has = goes.under under going
@@ -270,55 +195,31 @@ module _ {script : Script} (before after : Station) (goes : GoesAlone script bef
       began : ℕ
       began = begun_at (commit_in does) (commit_in under.work) under.at (length before.items)
 
-      group : ℕ → GroupItem
-      group number = group_for after.state.core began number
-
       still : IsCopyFor call.kind does
-      still = search (still_copy, under, arith)
+      still = still_copy before.state after.state call under.work does did (goes.asked under call going is)
 
       by : (made : Option ℕ) → made_in does ≡ made
           → Now (listed_on after.state.core.pool.uber.reflow before.items began made)
           (record { begun = before.client.begun; under_way = Some (record { at = began; work = does }) })
       by None none = goes_on_from goes.follows (cc) has.1 goes.few (search (went_at_end, arith)) is still
-      by (Some number) made = goes_on_from (follows_group goes.follows (group number) (search (made_at_end, arith)))
-          (sym (answered_by going)) has.1 goes.few (search (made_rests, began, group)) is still
-
-  goes_further : (turn : Turn Work) (call : ScriptCall) (under : UnderWay) → before.client.under_way ≡ Some under
-      → slice_get (calls_of script 0) (before.client.begun - 1) ≡ Some call
-      → GoesOnBy before.state after.state call under.work turn
-      → LeavesGoing 0 call before after under turn → Now after.items after.client
-  goes_further (More does) call under going is did leaves = goes_on call under does going is did leaves refl
+      by (Some number) made =
+          goes_on_from (follows_group goes.follows (group_for after.state.core began number)
+          (search (made_at_end, arith)))
+          (sym (answered_by going)) has.1 goes.few (search made_rests) is still
   goes_further (Busy by) call under going is did leaves = absurd leaves
-  goes_further (Done answer) call under going is did leaves =
-      ⊎_elim
-      (λ (now : under.at ≡ length before.items).
-      moved (leaves.0 ∙ ap (λ (n : ℕ). listed_for after.state.core before.items n
-      (entry_for call 0 before.client.begun n answer) (made_by under.work) answer) now) leaves.1
-      (answers_listed after.state.core call before.client.begun (made_by under.work) answer counted goes.few))
-      (λ plain.
-      moved (leaves.0 ∙ plain_listed after.state.core before.items under.at
-      (entry_for call 0 before.client.begun under.at answer) plain.0
-      ∙ ap (λ (e : Entry). before.items ++ Call e ∷ []) (same_entry plain.1)) leaves.1
-      (answers_alone call before.client.begun answer counted goes.few))
+  goes_further (Done answer) call under going is did leaves = elim
       (ends_right before.state after.state call under.work did
-      (goes.under under going).0 (goes.asked under call going is))
+      (goes.under under going).0 (goes.asked under call going is)) [
+        | inl now ↦ moved (leaves.0 ∙ ap (λ (n : ℕ). listed_for after.state.core before.items n
+            (entry_for call 0 before.client.begun n answer) (made_by under.work) answer) now) leaves.1
+            (answers_listed after.state.core call before.client.begun (made_by under.work) answer counted goes.few)
+        | inr plain ↦ moved (leaves.0 ∙ plain_listed after.state.core before.items under.at
+            (entry_for call 0 before.client.begun under.at answer) plain.0 ∙ (let point = plain.1 in cc)) leaves.1
+            (answers_alone call before.client.begun answer counted goes.few)
+      ]
     where
       counted : before.client.begun ≡ answered + 1
-      counted = let some = (goes.under under going).1 in let same = answered_by going in
-          omega (arith, some, same)
-
-      -- Where both speak of one point the entry is the same.
-      same_entry : point_after call.kind under.at answer ≡ point_after call.kind (length before.items) answer
-          → entry_for call 0 before.client.begun under.at answer
-          ≡ entry_for call 0 before.client.begun (length before.items) answer
-      same_entry point i = record {
-        caller = 0;
-        call = before.client.begun;
-        kind = call.kind;
-        id = call.id;
-        at = point i;
-        answer = answer;
-      }
+      counted = let some = (goes.under under going).1 in let same = answered_by going in omega (arith, some, same)
 
   turn_alone : Turned (calls_of script 0) 0 before after → Now after.items after.client
   turn_alone (Nothing nothing) = moved (cc) (cc) goes
@@ -347,38 +248,31 @@ none_second (first ∷ second ∷ clients) none = cc
 
 -- What the client has answered is within what it has to call.
 answered_within : {begun most : ℕ} (under : Option UnderWay) → begun ≤ most → answered_of begun under ≤ most
-answered_within None few = few
-answered_within (Some under) few = omega arith
+answered_within under few = grind arith
 
 one_alone : (script : Script) (actor : ℕ) (before after : Turns) → IsTurnOf script actor before after
     → AreAlone script before → AreAlone script after
 one_alone script actor before after turn alone = by actor refl before.clients refl
   where
-    same : after ≡ before → AreAlone script after
-    same is = subst (AreAlone script) (sym is) alone
-
     taken : (client : Client) → actor ≡ 0 → slice_get before.clients 0 ≡ Some client → AreAlone script after
     taken client first there =
-        let its = turn.one client (ap (slice_get before.clients) first ∙ there) in
+        let its = turn.one client (cc) in
         let now = turn_alone (record { state = before.state; items = before.items; client = client })
         (record { state = after.state; items = after.items; client = its.0 }) (alone.each client there)
-        (subst (λ (n : ℕ). Turned (calls_of script n) n
-        (record { state = before.state; items = before.items; client = client })
-        (record { state = after.state; items = after.items; client = its.0 })) first its.1) in
+        (rw first at its.1) in
         record {
           few = none_second after.clients (its.2.others 1 (λ one. omega (arith, first, one))
               ∙ second_none before.clients alone.few);
           answered = answered_of its.0.begun its.0.under_way;
           follows = now.follows;
           within = answered_within its.0.under_way now.few;
-          each = λ other is. subst (GoesAlone script after.items)
-              (some_is (sym (ap (slice_get after.clients) (sym first) ∙ its.2.there) ∙ is)) now;
+          each = λ other is. rw (let same : its.0 ≡ other = some_is (cc) in same) at now;
         }
 
     by : (whose : ℕ) → actor ≡ whose → (clients : List Client) → before.clients ≡ clients → AreAlone script after
-    by whose is [] none = same (turn.none (let long = ap length none in omega (arith, long)))
-    by zero is (only ∷ []) there = taken only is (ap (λ (l : List Client). slice_get l 0) there)
-    by (suc behind) is (only ∷ []) there = same (turn.none (let long = ap length there in omega (arith, long, is)))
+    by whose is [] none = rw (turn.none (let long = ap length none in omega (arith, long))) alone
+    by zero is (only ∷ []) there = taken only is (cc)
+    by (suc behind) is (only ∷ []) there = rw (turn.none (let long = ap length there in omega (arith, long, is))) alone
     by whose is (first ∷ second ∷ clients) there =
         absurd (let few = alone.few in let long = ap length there in omega (arith, few, long))
 
@@ -397,10 +291,8 @@ firsts one [] zero actors few = refl
 firsts one [] (suc count) actors few = absurd (omega arith)
 firsts one (first ∷ calls) zero actors few = refl
 firsts one (first ∷ calls) (suc count) actors few =
-    ap (λ (n : ℕ). n ∷ take count (map (λ (placed : Placed). placed.actor) calls))
-    (let its = actors 0 first (omega arith) in let same : first.actor ≡ 0 = omega arith in same)
-    ∙ ap (λ (l : List ℕ). 0 ∷ l)
-    (firsts one calls count (λ place other low. actors (suc place) other (omega arith)) (omega (arith, few)))
+    let same : first.actor ≡ 0 = omega (arith, actors 0 first (omega arith)) in
+    cc (firsts one calls count (λ place other low. actors (suc place) other (omega arith)) (omega (arith, few)))
 
 its_calls : (script : Script) → length (calls_of script 0) ≤ length script.calls
 its_calls script =
@@ -419,28 +311,15 @@ begins_alone script opened one first = record {
   answered = 0;
   follows = nothing;
   within = omega arith;
-  each = λ client there. rw (blank_is script.clients 0 there) (record {
-    follows = nothing;
-    few = omega arith;
-    under = λ under going. absurd (none_some going);
-    asked = λ under call going is. absurd (none_some going);
-  });
+  each = λ client there. rw (blank_is script.clients 0 there) (search (nothing, arith));
 }
   where
     nothing : Follows (Group opened ∷ []) 0
     nothing = record {
       callers = refl;
-      reads = λ index entry there of. absurd (only_group index entry there);
-      groups = λ index group there. only_first index group there;
+      reads = λ index entry there of. grind arith;
+      groups = λ index group there. grind arith;
     }
-      where
-        only_group : (index : ℕ) (entry : Entry) → CallAt (Group opened ∷ []) index entry → ⊥
-        only_group zero entry there = no_call (some_is there)
-        only_group (suc index) entry there = none_some there
-
-        only_first : (index : ℕ) (group : GroupItem) → GroupAt (Group opened ∷ []) index group → group.after ≡ index
-        only_first zero group there = cc
-        only_first (suc index) group there = cc
 
 -- and goes on by the lines to its end, whatever turns are taken.
 pub follows_lines : (script : Script) (start : CoreState) (opened : GroupItem) (passed : List TurnTaken)

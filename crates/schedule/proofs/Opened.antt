@@ -26,10 +26,7 @@ begins_first script mid core_is items_are i =
 pub blank_is : (count index : ℕ) {client : Client} → slice_get (blank_clients count) index ≡ Some client
     → client ≡ blank_client
 blank_is zero index there = cc
-blank_is (suc count) zero there = same there
-  where
-    same : {one two : Client} → Some one ≡ Some two → two ≡ one
-    same is = cc
+blank_is (suc count) zero there = cc
 blank_is (suc count) (suc index) {client = client} there = blank_is count index there
 
 -- and has none under way.

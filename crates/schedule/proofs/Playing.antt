@@ -1,5 +1,5 @@
 -- Turns of a script, one after the other.
-use Rattle.schedule.proofs.Words.{◌≡◌, ℕ, ◌+◌, ◌<◌, ◌≤◌, List, [], ◌∷◌, length, drop, Some, None, refl, sym, subst, arith, ◌++◌, true, map, take, slice_get, Result, Ok, Err, OnErr, drop_more, map-append, take_more, Disk, Script, Journal, Core, Client, Progress, most_turns, Turns, taken_by, Cursor, InOrder, InRest, InRound, IsCallOfScript, Replay, after_round, cursor_after, has_left_at, is_any_busy, is_busy_at, replay_at, replay_by, turn_at, turns_by, HaveHadTurns, HasPlayed, HasRunOutOfTurns, IsReady, AreIdle, HasTurn, HaveBegun, lt-ltb, le-ltb}
+use Rattle.schedule.proofs.Words.{◌≡◌, ℕ, ◌+◌, ◌<◌, ◌≤◌, List, [], ◌∷◌, length, drop, Some, None, refl, arith, ◌++◌, true, map, take, Result, Ok, Err, OnErr, drop_more, map-append, take_more, Disk, Script, Journal, Core, Progress, most_turns, Turns, taken_by, Cursor, InOrder, InRest, InRound, IsCallOfScript, Replay, after_round, cursor_after, has_left_at, is_any_busy, is_busy_at, replay_at, replay_by, turn_at, turns_by, HaveHadTurns, HasPlayed, HasRunOutOfTurns, IsReady, AreIdle, HasTurn, HaveBegun, lt-ltb, le-ltb}
 use Rattle.std.proofs.Common.{get_or}
 use Rattle.std.specs.Prelude.{false}
 use Rattle.schedule.proofs.Coming.{came_nowhere, came_on}
@@ -95,9 +95,7 @@ module _ {script : Script} {start : Replay} where
       → HaveBegun script next now.clients → HasPlayed script start (replay_at now taken (InRest given)) room
       → HasPlayed script start (replay_at now taken (InRest next)) room
   rest_goes {now = now} {given = given} {actor = actor} {number} one is idle begun played =
-      let free = idle_not_busy actor idle in
-      let none = begun_none_left now.clients actor number (search (given_own, arith)) in
-      played_past played (cc) (cc)
+      search (idle_not_busy, begun_none_left, given_own, played_past, arith)
 
 -- No more turns can be counted from the start on.
 pub stopped_same : {script : Script} {core : Core} {disk : Disk} (journal : Journal) (before after : Progress)
@@ -105,14 +103,12 @@ pub stopped_same : {script : Script} {core : Core} {disk : Disk} (journal : Jour
     → most_turns ≤ after.turns → IsReady script (turns_by core disk journal before) room
     → HasRunOutOfTurns script (replay_by core disk journal before cursor)
     (turns_by core disk journal after) after.turns room
-stopped_same {script = script} {core = core} {disk = disk} journal before after cursor {room = room} clients turns most
-    ready =
-    subst (λ (taken : ℕ). HasRunOutOfTurns script (replay_by core disk journal before cursor)
-    (turns_by core disk journal after) taken room) (sym turns) (rw clients (record {
-      most = subst (λ (taken : ℕ). most_turns ≤ taken) turns most;
+stopped_same {script} {core} {disk} journal before after cursor {room} clients turns most ready = rw (clients, turns)
+    (record {
+      most = rw turns at most;
       cursor = cursor;
       played = played_none (replay_by core disk journal before cursor) ready;
-    }))
+    })
 
 -- The first clients of a list had their turns: those are all that were taken.
 pub record TakesListed (script : Script) (listed : List ℕ) (index : ℕ) (start now : Replay) (room : ℕ) : Type 0 where

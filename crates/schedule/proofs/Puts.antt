@@ -1,5 +1,5 @@
 -- A client's put among the calls under way, what its turns leave of the core, and what its answers mean.
-use Rattle.schedule.proofs.Words.{◌≡◌, ℕ, List, [], ◌∷◌, ◌++◌, Option, refl, ⊤, Answer, Entry, Item, Map, PutBytes, map_after_answer, IsAnswerOf, adds_none, Core, HasTooManyOut, IsPutRefused, LeavesBlocks, KeepsAlone, Rearranges, listed_for}
+use Rattle.schedule.proofs.Words.{◌≡◌, ℕ, List, [], ◌∷◌, ◌++◌, Option, ⊤, Answer, Entry, Item, Map, PutBytes, map_after_answer, IsAnswerOf, adds_none, Core, HasTooManyOut, IsPutRefused, LeavesBlocks, KeepsAlone, Rearranges, listed_for, arith}
 use Rattle.core_state.specs.declared.answer.Answer.TheVariants as answer
 use Rattle.core_state.specs.declared.answer.Kind.TheVariants as kind
 use Rattle.core_state.specs.declared.item.Item.TheVariants.{Call as CallItem}
@@ -30,37 +30,21 @@ IsUnstored other = ⊥
 
 -- It tells neither of damage nor of a limit,
 pub unstored_plain : (given : Answer) → IsUnstored given → IsPlain given
-unstored_plain (answer.TooManyFailed out) unstored = tt
-unstored_plain answer.NoMemory unstored = tt
-unstored_plain answer.Full unstored = tt
-unstored_plain (answer.NoSpace sectors) unstored = tt
-unstored_plain other unstored = absurd unstored
+unstored_plain given unstored = grind arith
 
 -- is an answer for puts,
 pub unstored_answers : (given : Answer) → IsUnstored given → IsAnswerOf kind.Put given
-unstored_answers (answer.TooManyFailed out) unstored = tt
-unstored_answers answer.NoMemory unstored = tt
-unstored_answers answer.Full unstored = refl
-unstored_answers (answer.NoSpace sectors) unstored = refl
-unstored_answers other unstored = absurd unstored
+unstored_answers given unstored = grind arith
 
 -- changes no map,
 pub unstored_map : (handed : PutBytes) {map : Map} (entry : Entry) (given : Answer) → IsUnstored given
     → map_after_answer handed map entry given ≡ map
-unstored_map handed entry (answer.TooManyFailed out) unstored = refl
-unstored_map handed entry answer.NoMemory unstored = refl
-unstored_map handed entry answer.Full unstored = refl
-unstored_map handed entry (answer.NoSpace sectors) unstored = refl
-unstored_map handed entry other unstored = absurd unstored
+unstored_map handed {map = map} entry given unstored = grind arith
 
 -- and its entry alone is listed.
 pub unstored_listed : (core : Core) (items : List Item) (at : ℕ) (entry : Entry) (made : Option ℕ) (given : Answer)
     → IsUnstored given → listed_for core items at entry made given ≡ items ++ CallItem entry ∷ []
-unstored_listed core items at entry made (answer.TooManyFailed out) unstored = refl
-unstored_listed core items at entry made answer.NoMemory unstored = refl
-unstored_listed core items at entry made answer.Full unstored = refl
-unstored_listed core items at entry made (answer.NoSpace sectors) unstored = refl
-unstored_listed core items at entry made other unstored = absurd unstored
+unstored_listed core items at entry made given unstored = grind arith
 
 -- Where it tells of too many devices and says what is out, it lists those that are.
 pub tells_out : (core : Core) {out : ℕ} → HasTooManyOut core → out ≡ core.pool.out
@@ -80,24 +64,9 @@ leaves_same old same = search (same, adds_none)
 -- and so a put is refused, whatever its first turn answers.
 pub put_refused : {old new : Core} (id len : ℕ) (given : Answer) → IsPutRefused old new id len given
     → Refuses old new given
-put_refused {old = old} id len (answer.TooManyFailed out) is = record {
-  leaves = leaves_same old is.2;
-  unstored = tt;
-  tells = tells_out old is.0 is.1;
-}
-put_refused id len answer.Full is =
-    record { leaves = is.2; unstored = tt; tells = λ listed told. cc }
-  where
-    other : (listed : ℕ) → answer.Full ≡ answer.TooManyFailed listed → ⊥
-    other listed told = cc
-put_refused id len (answer.NoSpace sectors) is =
-    record { leaves = is.3; unstored = tt; tells = λ listed told. absurd (other listed told) }
-  where
-    other : (listed : ℕ) → answer.NoSpace sectors ≡ answer.TooManyFailed listed → ⊥
-    other listed told = cc
-put_refused id len answer.NoMemory is =
-    record { leaves = is.1; unstored = tt; tells = λ listed told. absurd (other listed told) }
-  where
-    other : (listed : ℕ) → answer.NoMemory ≡ answer.TooManyFailed listed → ⊥
-    other listed told = cc
+put_refused {old = old} id len (answer.TooManyFailed out) is =
+    record { leaves = leaves_same old is.2; unstored = tt; tells = tells_out old is.0 is.1 }
+put_refused id len answer.Full is = record { leaves = is.2; unstored = tt; tells = λ listed told. cc }
+put_refused id len (answer.NoSpace sectors) is = record { leaves = is.3; unstored = tt; tells = λ listed told. cc }
+put_refused id len answer.NoMemory is = record { leaves = is.1; unstored = tt; tells = λ listed told. cc }
 put_refused id len other is = absurd is

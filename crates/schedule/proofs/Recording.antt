@@ -1,5 +1,5 @@
 -- A journal goes on to tell what it did, turn by turn: the devices go on, a commit begins or ends, a call is answered.
-use Rattle.schedule.proofs.Words.{◌≡◌, ℕ, ◌≤◌, List, [], ◌∷◌, ◌++◌, length, refl, sym, ◌∙◌, ap, subst, arith, append_assoc, length-append, ◌+◌, append-nil, Contains, ⊤, Disk, Later, Entry, Item, Group, Call, Map, PutBytes, IsGroupBefore, IsAnswerOf, Calls, Follows, IsAttachOf, Kept, Setting, Knows, AwaitsAttach, IsGroupOf, IsBegunAfter, Groups, IsRowOf, KeepsSince, KeepsThroughout, World, knows_keep, contains_head, contains_none, contains_tail, Stage, Lays, since_longer, shown_in, KeepsLast, HaveParityOf, parity_with, map_before, answers_grown_call, answers_grown_group, groups_grown_call, latest_grown_call, latest_grown_group, group_of_grown, after_listed, width_step_where, groups_grown_group, groups_call, groups_end, groups_begun, groups_cut, contains_one, row_among, each_grown_call, each_grown_group, HasBegun, Recorded, IsRightNext, IsBegunAt, KeepsOn, KeepsTurnByTurn, Past, CallAt, GroupsAreRight, AnswersAreCaused, KeptSoFar}
+use Rattle.schedule.proofs.Words.{◌≡◌, ℕ, ◌≤◌, List, [], ◌∷◌, ◌++◌, length, refl, sym, ◌∙◌, arith, append_assoc, length-append, ◌+◌, append-nil, Contains, ⊤, Disk, Later, Entry, Item, Group, Call, Map, PutBytes, IsGroupBefore, IsAnswerOf, Calls, Follows, IsAttachOf, Kept, Setting, Knows, AwaitsAttach, IsGroupOf, IsBegunAfter, Groups, IsRowOf, KeepsSince, KeepsThroughout, World, knows_keep, contains_head, contains_none, contains_tail, Stage, Lays, since_longer, shown_in, KeepsLast, HaveParityOf, parity_with, map_before, answers_grown_call, answers_grown_group, groups_grown_call, latest_grown_call, latest_grown_group, group_of_grown, after_listed, width_step_where, groups_grown_group, groups_call, groups_end, groups_begun, groups_cut, contains_one, row_among, each_grown_call, each_grown_group, HasBegun, Recorded, IsRightNext, IsBegunAt, KeepsTurnByTurn, Past, CallAt, GroupsAreRight, AnswersAreCaused, KeptSoFar}
 use Rattle.std.specs.Prelude.{◌≢◌}
 use Rattle.core_state.specs.declared.answer.Answer.TheVariants as answer
 use Rattle.core_state.specs.declared.item.Group.{Group as GroupItem}
@@ -71,7 +71,8 @@ module _ {world : World} {past : Past} {items : List Item} {item : GroupItem} {l
 
   -- An item is listed, just now, and the journal's groups stand in a row as before.
   recorded_on : (middle : List Item) (new : Item) (earlier : List Kept) {group : GroupItem} {next : Kept}
-      {onward : List Kept} {reach : ℕ} (groups : Groups world.calls world.handed world.opening world.known (middle ++ new ∷ []))
+      {onward : List Kept} {reach : ℕ} (groups : Groups world.calls world.handed world.opening world.known
+      (middle ++ new ∷ []))
       → groups.answered ≡ earlier ++ next ∷ [] → groups.begun ≡ onward
       → world.known ++ so_far.groups.answered ++ so_far.groups.begun ≡ world.known ++ groups.answered ++ groups.begun
       → AreLatest world.calls world.handed world.opening world.known (middle ++ new ∷ []) group next onward
@@ -197,16 +198,12 @@ module _ {world : World} {past : Past} {items : List Item} {item : GroupItem} {l
   pub recorded_halves : (from to : Stage) → HalvesGoOn from to
       → Recorded world past items item last (shown_in begun from) now
       → Recorded world past items item last (shown_in begun to) now
-  recorded_halves Lays Lays goes so_far = so_far
-  recorded_halves Lays Signs goes so_far = recorded_comes so_far
-  recorded_halves Signs Signs goes so_far = so_far
-  recorded_halves Signs Lays goes so_far = absurd goes
+  recorded_halves from to goes so_far = grind (arith, recorded_comes)
 
   -- or as its commit ends or is cut short.
   pub recorded_whole : (stage : Stage) → Recorded world past items item last (shown_in begun stage) now
       → Recorded world past items item last begun now
-  recorded_whole Lays so_far = recorded_comes so_far
-  recorded_whole Signs so_far = so_far
+  recorded_whole stage so_far = grind (arith, recorded_comes)
 
 -- A commit has ended the group that was begun.
 module _ {world : World} {past : Past} {items : List Item} {item : GroupItem} {last next : Kept} {now : Disk}

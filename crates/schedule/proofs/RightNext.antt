@@ -1,5 +1,5 @@
 -- The next entry is right where it is listed.
-use Rattle.schedule.proofs.Words.{◌≡◌, inr, ℕ, ◌+◌, ◌≤◌, List, [], ◌∷◌, ◌++◌, length, Option, Some, None, refl, sym, subst, arith, length-append, option_and_then, ⊤, Disk, Answer, Kind, Entry, Item, Group, Call, Map, PutBytes, map_of, map_after, IsAnsweredGroup, IsPrevious, IsGroupBefore, IsReadOf, IsCutShort, IsRightAttach, IsRightCopy, IsRightRead, IsRightFree, IsRightSync, IsRightCall, World, max_group, IsReadKind, group_before_first, grown_has, last_there, map_before, map_at_end, IsAnswerCause, IsGroupKind, IsRightNext, AllBelow}
+use Rattle.schedule.proofs.Words.{◌≡◌, inr, ℕ, ◌+◌, ◌≤◌, List, [], ◌∷◌, ◌++◌, length, Option, Some, None, refl, sym, subst, arith, length-append, option_and_then, ⊤, Disk, Answer, Kind, Entry, Item, Group, Call, Map, PutBytes, map_of, map_after, IsAnsweredGroup, IsPrevious, IsGroupBefore, IsReadOf, IsCutShort, IsRightAttach, IsRightCopy, IsRightRead, IsRightFree, IsRightCall, World, max_group, IsReadKind, group_before_first, grown_has, last_there, map_before, map_at_end, IsAnswerCause, IsGroupKind, IsRightNext, AllBelow}
 use Rattle.std.specs.Prelude.{◌≢◌}
 use Rattle.core_state.specs.declared.answer.Answer.TheVariants as answer
 use Rattle.core_state.specs.declared.answer.Kind.TheVariants as kind
@@ -24,12 +24,7 @@ IsPlain other = ⊤
 -- Then nothing else is needed for its cause.
 plain_caused : (items : List Item) (index : ℕ) (disk : Disk) (given : Answer) → IsPlain given
     → IsAnswerCause items index disk given
-plain_caused items index disk (answer.Limit reached) plain = absurd plain
-plain_caused items index disk (answer.Expanding to) plain = absurd plain
-plain_caused items index disk (answer.NoDevice devices width) plain = absurd plain
-plain_caused items index disk (answer.Taken slot) plain = absurd plain
-plain_caused items index disk (answer.Paused device) plain = absurd plain
-plain_caused items index disk other plain = tt
+plain_caused items index disk given plain = grind arith
 
 -- The call was cut short: too many devices are out, or memory is wanting.
 abbrev pub IsStopped : Answer → Type 0
@@ -38,57 +33,25 @@ IsStopped answer.NoMemory = ⊤
 IsStopped other = ⊥
 
 stopped_plain : (given : Answer) → IsStopped given → IsPlain given
-stopped_plain (answer.TooManyFailed out) stopped = tt
-stopped_plain answer.NoMemory stopped = tt
-stopped_plain other stopped = absurd stopped
+stopped_plain given stopped = grind arith
 
 stopped_cut : (given : Answer) → IsStopped given → IsCutShort given
-stopped_cut (answer.TooManyFailed out) stopped = tt
-stopped_cut answer.NoMemory stopped = tt
-stopped_cut other stopped = absurd stopped
+stopped_cut given stopped = grind arith
 
 -- A sync or an attach that was cut short tells of no group, and a copy of no end.
-cut_sync : (items : List Item) (previous index : ℕ) (given : Answer) → IsCutShort given
-    → IsRightSync items previous index given
-cut_sync items previous index (answer.TooManyFailed out) cut = tt
-cut_sync items previous index (answer.Limit reached) cut = tt
-cut_sync items previous index answer.NoMemory cut = tt
-cut_sync items previous index other cut = absurd cut
-
-cut_attach : (items : List Item) (previous index : ℕ) (given : Answer) → IsCutShort given
-    → IsRightAttach items previous index given
-cut_attach items previous index (answer.TooManyFailed out) cut = tt
-cut_attach items previous index (answer.Limit reached) cut = tt
-cut_attach items previous index answer.NoMemory cut = tt
-cut_attach items previous index other cut = absurd cut
-
-cut_copy : (items : List Item) (index : ℕ) (given : Answer) → IsCutShort given → IsRightCopy items index given
-cut_copy items index (answer.TooManyFailed out) cut = tt
-cut_copy items index (answer.Limit reached) cut = tt
-cut_copy items index answer.NoMemory cut = tt
-cut_copy items index other cut = absurd cut
-
 cut_group : (handed : PutBytes) (opening : Map) (items : List Item) (previous index : ℕ) (entry : Entry) (asked : Kind)
     → IsGroupKind asked → IsCutShort entry.answer → IsRightCall handed opening items previous index entry asked
-cut_group handed opening items previous index entry kind.Sync group cut = search cut_sync
-cut_group handed opening items previous index entry kind.Attach group cut = search cut_attach
-cut_group handed opening items previous index entry kind.Copy group cut = cut_copy items index entry.answer cut
-cut_group handed opening items previous index entry other group cut = absurd group
+cut_group handed opening items previous index entry asked group cut = grind arith
 
 -- What a read answers of a map is plain.
 read_plain : (held : Option (List ℕ)) (asked : Kind) (given : Answer) → IsReadOf held asked given → IsPlain given
-read_plain None asked given is = subst IsPlain (sym is) tt
-read_plain (Some bytes) kind.Get (answer.Read given) is = tt
-read_plain (Some bytes) kind.Sum (answer.Digest len sha) is = tt
-read_plain (Some bytes) asked given is = absurd is
+read_plain held asked given is = grind arith
 
 -- A read is right as its point says.
 read_call : (handed : PutBytes) (opening : Map) (items : List Item) (previous index : ℕ) (entry : Entry) (asked : Kind)
     → IsReadKind asked → IsRightRead handed opening items previous index entry entry.at
     → IsRightCall handed opening items previous index entry asked
-read_call handed opening items previous index entry kind.Get is right = right
-read_call handed opening items previous index entry kind.Sum is right = right
-read_call handed opening items previous index entry other is right = absurd is
+read_call handed opening items previous index entry asked is right = grind arith
 
 module _ (world : World) (items : List Item) (entry : Entry) (disk : Disk) where
   abbrev with_entry : List Item
@@ -138,10 +101,7 @@ module _ (world : World) (items : List Item) (entry : Entry) (disk : Disk) where
   -- One that found no number left for its group.
   pub group_limit_right : (item : GroupItem) → IsGroupKind entry.kind → entry.answer ≡ answer.Limit max_group
       → IsGroupBefore items (length items) item → max_group ≤ item.group + 1 → IsRightNext world items entry disk
-  group_limit_right item asked answer_is latest at_last = search (cut_group, apart, arith)
-    where
-      apart : answer.Limit max_group ≡ answer.Damaged → ⊥
-      apart is = cc
+  group_limit_right item asked answer_is latest at_last = search (cut_group, arith)
 
   -- A copy that is done, where the last group before it has this one width, or that told of another end.
   pub copy_right : entry.kind ≡ kind.Copy → entry.answer ≢ answer.Damaged

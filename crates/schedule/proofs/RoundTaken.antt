@@ -14,7 +14,7 @@ any_busy (first ∷ clients) is = by first.under_way refl (λ idle. any_busy cli
 
     by : (under : Option UnderWay) → first.under_way ≡ under → (first.under_way ≡ None → Busy clients)
         → Busy (first ∷ clients)
-    by None idle later = let found = later idle in (suc found.0, (omega (arith, found.1)), found.2)
+    by None idle later = let found = later idle in (suc found.0, omega (arith, found.1), found.2)
     by (Some under) going later = search arith
 
 -- and where none has, all are idle.
@@ -35,11 +35,7 @@ none_busy_idle (first ∷ clients) is = by first.under_way refl (λ idle. none_b
 -- A busy client has a call under way.
 pub busy_under : (clients : List Client) (actor : ℕ) {client : Client} → slice_get clients actor ≡ Some client
     → is_busy_at clients actor ≡ true → (under : UnderWay) × (client.under_way ≡ Some under)
-busy_under clients actor {client} there busy = by client.under_way refl
-  where
-    by : (its : Option UnderWay) → client.under_way ≡ its → (under : UnderWay) × (client.under_way ≡ Some under)
-    by None idle = cc
-    by (Some under) going = (under, going)
+busy_under clients actor {client} there busy = grind arith
 
 -- Before a round no client had its turn.
 pub round_none : (clients : List Client) (taken : ℕ) → HasComeRound 0 clients taken clients taken

@@ -1,5 +1,5 @@
 -- What stands between two turns stands after a client's next one.
-use Rattle.schedule.proofs.Words.{◌≡◌, ◌≢◌, inl, inr, ⊎_elim, ℕ, ◌≤◌, List, [], ◌∷◌, ◌++◌, length, refl, arith, length-append, eq-eqb, ne_eqb, IsSome, ◌==◌, cases_eq, Entry, Item, Group, CallAt, Kept, World, CommitRun, ScriptCall, Script, map_before, new_or_before, width_step_where, awaits_grown, Rests, Copies, Commits, attach_commit, SetsContent, Client, UnderWay, Work, IsBegunAt, HasBegunBy, HasBegunIn, HasContent, IsClient, MakesCommit}
+use Rattle.schedule.proofs.Words.{◌≡◌, ◌≢◌, ℕ, ◌≤◌, List, [], ◌∷◌, ◌++◌, length, arith, length-append, eq-eqb, ne_eqb, ◌==◌, cases_eq, Entry, Item, Group, CallAt, Kept, World, CommitRun, ScriptCall, Script, map_before, new_or_before, width_step_where, awaits_grown, Commits, SetsContent, Client, UnderWay, Work, IsBegunAt, HasBegunBy, HasBegunIn, HasContent, IsClient, MakesCommit}
 use Rattle.std.specs.Prelude.{Option, Some, None, if◌then◌else◌}
 use Rattle.core_state.specs.declared.item.Group.{Group as GroupItem}
 use Rattle.core_state.specs.declared.item.Item.TheVariants.{Call as CallItem}
@@ -9,11 +9,7 @@ use Rattle.schedule.specs.declared.client.Work.TheVariants as work
 content_grown : (world : World) (items more : List Item) (call : ScriptCall) {at : ℕ} (content : List ℕ) (does : Work)
     → at ≤ length items
     → HasContent world items call at content does → HasContent world (items ++ more) call at content does
-content_grown world items more call content (work.Put run) low has = has
-content_grown world items more call {at = at} content (work.Read run) low has = search (map_before, arith)
-content_grown world items more call content (work.Sync run) low has = has
-content_grown world items more call content (work.Attach run) low has = has
-content_grown world items more call content (work.Copy round) low has = has
+content_grown world items more call {at = at} content does low has = grind (arith, map_before)
 
 pub begun_grown : {attached told : Type 0} {world : World} {items : List Item} (more : List Item) {item : GroupItem}
     (after : ℕ) {next : Kept} → (attached → told) → IsBegunAt world items item after attached next
@@ -32,28 +28,14 @@ in_grown world items more item begun at (Some run) (next, is, was) = search (beg
 pub group_grown : (world : World) (items more : List Item) (item : GroupItem) (begun : List Kept) (at : ℕ) (does : Work)
     → HasBegunBy world items item begun at does → HasBegunBy world (items ++ more) item begun at does
 group_grown world items more item begun at (work.Sync run) (next, is, was) = search begun_grown
-group_grown world items more item begun at (work.Put run) is = is
-group_grown world items more item begun at (work.Read run) is = is
 group_grown world items more item begun at (work.Attach run) is = search in_grown
-group_grown world items more item begun at (work.Copy (Commits run)) (next, is, was) =
-    (next, is, begun_grown more at (λ none. none) was)
-group_grown world items more item begun at (work.Copy (Rests actor made)) is = is
-group_grown world items more item begun at (work.Copy (Copies run)) is = is
+group_grown world items more item begun at (work.Copy (Commits run)) (next, is, was) = search begun_grown
+group_grown world items more item begun at other is = is
 
 -- Work that makes no commit knows nothing of groups.
 pub group_free : (world : World) (items : List Item) (item : GroupItem) (begun : List Kept) (at : ℕ) (does : Work)
     → (MakesCommit does → ⊥) → HasBegunBy world items item begun at does
-group_free world items item begun at (work.Sync run) none = absurd (none refl)
-group_free world items item begun at (work.Copy (Commits run)) none = absurd (none refl)
-group_free world items item begun at (work.Copy (Rests actor made)) none = tt
-group_free world items item begun at (work.Copy (Copies run)) none = tt
-group_free world items item begun at (work.Put run) none = tt
-group_free world items item begun at (work.Read run) none = tt
-group_free world items item begun at (work.Attach run) none = in_free (attach_commit run) none
-  where
-    in_free : (commit : Option CommitRun) → (IsSome commit → ⊥) → HasBegunIn world items item begun at commit
-    in_free None none = tt
-    in_free (Some made) none = absurd (none refl)
+group_free world items item begun at does none = grind (arith, none)
 
 -- Clients go on as the journal grows by items that are none of theirs.
 pub client_grown : {world : World} {script : Script} {items : List Item} (more : List Item) {item now : GroupItem}
@@ -82,11 +64,7 @@ with_other contents index content other apart = search ne_eqb
 
 -- Those that one has already change none.
 pub with_same : (contents : ℕ → List ℕ) (index : ℕ) → with_content contents index (contents index) ≡ contents
-with_same contents index = λ i other. each other i
-  where
-    each : (other : ℕ) → with_content contents index (contents index) other ≡ contents other
-    each other = ⊎_elim
-        (λ (same : other ≡ index). search (same, with_own, arith)) (search with_other) (cases_eq other index)
+with_same contents index = search (with_own, with_other, cases_eq, arith)
 
 pub sets_content : (contents : ℕ → List ℕ) (index : ℕ) (content : List ℕ)
     → SetsContent contents (with_content contents index content) index content
@@ -95,20 +73,12 @@ sets_content contents index content = search (with_own, with_other)
 -- A new entry is none of another caller's.
 pub entry_apart : (items : List Item) (entry : Entry) (index : ℕ) → entry.caller ≢ index → (place : ℕ) (other : Entry)
     → CallAt (items ++ CallItem entry ∷ []) place other → other.caller ≡ index → CallAt items place other
-entry_apart items entry index apart place other there its =
-    elim (new_or_before items (CallItem entry) place (CallItem other) there) [
-      | inl last ↦ absurd (apart (cc))
-      | inr earlier ↦ earlier.1
-    ]
+entry_apart items entry index apart place other there its = search (new_or_before, arith)
 
 -- A new group is none of any caller's.
 pub group_apart : (items : List Item) (group : GroupItem) (place : ℕ) {other : Entry}
     → CallAt (items ++ Group group ∷ []) place other → CallAt items place other
-group_apart items group place {other = other} there =
-    elim (new_or_before items (Group group) place (CallItem other) there) [
-      | inl last ↦ cc
-      | inr earlier ↦ earlier.1
-    ]
+group_apart items group place {other = other} there = search (new_or_before, arith)
 
 pub head_is : {A : Type 0} {one two : A} → one ∷ [] ≡ two ∷ [] → one ≡ two
 head_is same = cc

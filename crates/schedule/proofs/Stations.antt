@@ -22,10 +22,7 @@ module _ {calls : List ScriptCall} (actor : ℕ) (core new : Core) (disk : Disk)
       → entry ≡ entry_for call actor (client.begun + 1) at given → listed ≡ items ++ Call entry ∷ []
       → Turned calls actor (station_of core disk items client)
       (station_of new disk listed (record { begun = client.begun + 1; under_way = client.under_way }))
-  begun_done {given = given} did at_is entry_is listed_is = Began (Done given) (search) (
-    cc,
-    search,
-  )
+  begun_done {given = given} did at_is entry_is listed_is = Began (Done given) (search) (cc, search)
 
 -- Its call under way had its next one, in which the journal had the same items until it listed some.
 module _ {calls : List ScriptCall} (actor : ℕ) {before after : CoreState} {items middle : List Item} (client : Client)
@@ -44,13 +41,7 @@ module _ {calls : List ScriptCall} (actor : ℕ) {before after : CoreState} {ite
           under_way = Some (record { at = at; work = does });
         };
       })
-  went_more {does = does} {at = at} did at_is now_is widths_is made_is rest = Went under (More does) (search) (
-    cc,
-    search began,
-  )
-    where
-      began : at ≡ begun_at (commit_in does) (commit_in under.work) under.at (length items)
-      began = cc
+  went_more {does = does} {at = at} did at_is now_is widths_is made_is rest = Went under (More does) (search) (cc, cc)
 
   pub went_done : {given : Answer} {widths : Reflow} {entry : Entry} {listed : List Item} {made : Option ℕ}
       {left : Option UnderWay}
@@ -62,8 +53,5 @@ module _ {calls : List ScriptCall} (actor : ℕ) {before after : CoreState} {ite
         items = listed;
         client = record { begun = client.begun; under_way = left };
       })
-  went_done {given = given} {widths = widths} {made = made} did widths_is entry_is listed_is made_is left_is = Went
-      under (Done given) (search) (
-        cc,
-        search,
-      )
+  went_done {given = given} {widths = widths} {made = made} did widths_is entry_is listed_is made_is left_is =
+      Went under (Done given) (search) (cc, search)

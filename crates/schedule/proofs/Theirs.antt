@@ -1,5 +1,5 @@
 -- The calls under way of some clients, of whom one has changed.
-use Rattle.schedule.proofs.Words.{◌≡◌, ◌≢◌, ⊎_elim, ℕ, zero, suc, List, [], ◌∷◌, ◌++◌, Option, Some, None, sym, ◌∙◌, ap, subst, refl, Contains, IsSome, slice_get, ⊤, cases_eq, false≢true, Contains-append_cases, Contains-append_left, Contains-append_right, flat_map-append, Gains, listed_cases, none_listed, CommitRun, Script, AttachRun, Reads, Checked, Joins, Signs, attach_commit, Core, Rests, Copies, Commits, HoldingCall, actor_of, IsBeforeCommit, Client, UnderWay, Work, Changes, AreGoing, IsGoing, IsHoldOf, IsTheirs, MakesCommit, call_of_client, calls_under_way, commit_in, held_by, held_under, begun_at, made_in}
+use Rattle.schedule.proofs.Words.{◌≡◌, ◌≢◌, ⊎_elim, ℕ, zero, suc, List, [], ◌∷◌, ◌++◌, Option, Some, None, sym, ◌∙◌, ap, subst, refl, Contains, IsSome, slice_get, ⊤, cases_eq, false≢true, Contains-append_cases, Contains-append_left, Contains-append_right, flat_map-append, Gains, listed_cases, none_listed, CommitRun, Script, AttachRun, attach_commit, Core, HoldingCall, actor_of, IsBeforeCommit, Client, UnderWay, Work, Changes, AreGoing, IsGoing, IsHoldOf, IsTheirs, MakesCommit, call_of_client, calls_under_way, commit_in, held_by, held_under, begun_at, made_in, arith}
 use Rattle.schedule.specs.declared.client.Work.TheVariants as work
 
 pub some_is : {A : Type 0} {one two : A} → Some one ≡ Some two → one ≡ two
@@ -19,8 +19,7 @@ same_list (item ∷ items) (first ∷ others) same =
 
 -- A list of one has no other.
 pub only_one : {T : Type 0} {one other : T} → Contains (one ∷ []) other → one ≡ other
-only_one {one = one} {other = other} listed =
-    ⊎_elim (λ same. same) (λ none. absurd (none_listed other none)) (listed_cases one other [] listed)
+only_one {one = one} {other = other} listed = search (none_listed, listed_cases, arith)
 
 -- ---- whose a call under way is
 
@@ -45,7 +44,7 @@ whose (first ∷ clients) {call = call} listed = ⊎_elim (mine first.under_way 
       index = 0;
       client = first;
       under = under;
-      going = record { there = refl; under_way = is };
+      going = search;
       held = held;
     }
 
@@ -72,13 +71,7 @@ is_among (first ∷ clients) (suc index) {client = client} {under = under} call 
 -- A call has its client's hold.
 pub its_actor : {index : ℕ} (does : Work) (call : HoldingCall) → IsHoldOf index does → Contains (held_by does) call
     → actor_of call ≡ index
-its_actor (work.Put run) call its held = ap actor_of (sym (only_one held)) ∙ its
-its_actor (work.Read run) call its held = ap actor_of (sym (only_one held)) ∙ its
-its_actor (work.Sync run) call its held = absurd (none_listed call held)
-its_actor (work.Attach run) call its held = absurd (none_listed call held)
-its_actor (work.Copy (Copies run)) call its held = ap actor_of (sym (only_one held)) ∙ its
-its_actor (work.Copy (Rests actor made)) call its held = absurd (none_listed call held)
-its_actor (work.Copy (Commits run)) call its held = absurd (none_listed call held)
+its_actor does call its held = grind (arith, only_one, none_listed)
 
 -- ---- who has a call under way
 
@@ -88,12 +81,9 @@ pub held_by_others : {script : Script} {core : Core} {clients : List Client} {in
     → (call : HoldingCall) → Contains (calls_under_way clients) call → actor_of call ≢ index
 held_by_others {clients = clients} {client = client} was none going call listed its =
     let found = whose clients listed in
-    let actor = its_actor found.under.work call
+    let here : actor_of call ≡ found.index = its_actor found.under.work call
     (going.each found.index found.client found.under found.going).hold found.held in
-    let here = rw (sym actor ∙ its) at found.going in
-    let same : found.client ≡ client = some_is (cc) in
-    none_listed call (rw (ap held_under (sym here.under_way ∙ ap (λ (c : Client). c.under_way) same) ∙ none)
-    at found.held)
+    none_listed call (rw (let same : held_by found.under.work ≡ [] = cc in same) at found.held)
 
 -- as where it has none under way.
 pub calls_of_others : {script : Script} {core : Core} {clients : List Client} {index : ℕ} {client : Client}
@@ -107,11 +97,7 @@ makes_commit does is = subst IsSome (sym is) refl
 
 -- and has one where it makes one.
 pub run_of : (does : Work) → MakesCommit does → (run : CommitRun) × (commit_in does ≡ Some run)
-run_of does = by (commit_in does)
-  where
-    by : (commit : Option CommitRun) → IsSome commit → (run : CommitRun) × (commit ≡ Some run)
-    by None none = cc
-    by (Some run) there = (run, refl)
+run_of does makes = grind arith
 
 -- No other client makes a commit.
 abbrev pub OnlyIt : List Client → ℕ → Type 0
@@ -135,29 +121,19 @@ one_changes {index = zero} (first ∷ clients) (next ∷ news) was changes = rec
   before = [];
   after = clients;
   was = cc;
-  is = λ i. some_is changes.there i
-      ∷ same_list news clients (λ other. changes.others (suc other) (λ is. apart other is)) i;
+  is = cc (some_is changes.there, same_list news clients (λ other. changes.others (suc other) (λ is. cc)));
 }
-  where
-    apart : (other : ℕ) → suc other ≡ zero → ⊥
-    apart other is = cc
 one_changes {index = suc index} (first ∷ clients) (next ∷ news) was changes =
     let rest = one_changes {index = index} clients news was (record {
       there = changes.there;
-      others = λ other apart. changes.others (suc other) (λ is. apart (later other is));
+      others = λ other apart. changes.others (suc other) (λ is. apart (omega arith));
     }) in
     record {
       before = first ∷ rest.before;
       after = rest.after;
       was = cc;
-      is = λ i. some_is (changes.others 0 first_apart) i ∷ rest.is i;
+      is = cc (some_is (changes.others 0 (λ is. cc)));
     }
-  where
-    first_apart : zero ≡ suc index → ⊥
-    first_apart is = cc
-
-    later : (other : ℕ) → suc other ≡ suc index → other ≡ index
-    later other is = cc
 
 module _ {clients news : List Client} {index : ℕ} {old client : Client} (was : slice_get clients index ≡ Some old)
     (changes : Changes clients news index client) where
@@ -172,12 +148,10 @@ module _ {clients news : List Client} {index : ℕ} {old client : Client} (was :
   after = calls_under_way change.after
 
   were : {held : List HoldingCall} → call_of_client old ≡ held → calls_under_way clients ≡ before ++ (held ++ after)
-  were is = ap calls_under_way change.was ∙ flat_map-append call_of_client change.before (old ∷ change.after)
-      ∙ ap (λ (l : List HoldingCall). before ++ (l ++ after)) is
+  were is = search (flat_map-append, arith)
 
   are : (held : List HoldingCall) → call_of_client client ≡ held → calls_under_way news ≡ before ++ (held ++ after)
-  are held is = ap calls_under_way change.is ∙ flat_map-append call_of_client change.before (client ∷ change.after)
-      ∙ ap (λ (l : List HoldingCall). before ++ (l ++ after)) is
+  are held is = search (flat_map-append, arith)
 
   -- and its call begins,
   pub call_begins : {call : HoldingCall} → call_of_client old ≡ [] → call_of_client client ≡ call ∷ []
@@ -200,7 +174,7 @@ module _ {clients news : List Client} {index : ℕ} {old client : Client} (was :
 
   -- Where it holds no sectors before and after, the calls are the same.
   pub calls_stay : call_of_client old ≡ [] → call_of_client client ≡ [] → calls_under_way news ≡ calls_under_way clients
-  calls_stay was_none none = are [] none ∙ sym (were was_none)
+  calls_stay was_none none = cc (are [] none, were was_none)
 
 -- What holds of the call that a client has under way holds of each that it has,
 pub the_one : (T : UnderWay → Type 0) {its : Option UnderWay} {under : UnderWay} → its ≡ Some under → T under
@@ -234,11 +208,7 @@ no_commit_under none under is = subst IsNoCommit is none
 -- A work that makes none began when it was told before.
 pub begun_before : (does was : Work) {at : ℕ} (now : ℕ) → (MakesCommit does → ⊥)
     → begun_at (commit_in does) (commit_in was) at now ≡ at
-begun_before does was {at = at} now none = by (commit_in does) none
-  where
-    by : (commit : Option CommitRun) → (IsSome commit → ⊥) → begun_at commit (commit_in was) at now ≡ at
-    by None none = refl
-    by (Some run) none = absurd (none refl)
+begun_before does was now none = grind arith
 
 -- No attach is under way.
 abbrev pub IsNoAttach : Option UnderWay → Type 0
@@ -255,20 +225,11 @@ other_no_attach is does_is none under run its_is attach = none run (cc)
 -- A work that holds sectors is none,
 pub held_no_attach : {does : Work} {held : HoldingCall} → held_by does ≡ held ∷ [] → (run : AttachRun)
     → does ≡ work.Attach run → ⊥
-held_no_attach holds run does = apart (sym (ap held_by does) ∙ holds)
-  where
-    apart : {held : HoldingCall} → [] ≡ held ∷ [] → ⊥
-    apart same = cc
+held_no_attach holds run does = cc
 
 -- nor has it made a group in the turn before.
 pub held_none_made : (does : Work) {held : HoldingCall} → held_by does ≡ held ∷ [] → made_in does ≡ None
-held_none_made (work.Put run) holds = refl
-held_none_made (work.Read run) holds = refl
-held_none_made (work.Sync run) holds = refl
-held_none_made (work.Attach run) holds = refl
-held_none_made (work.Copy (Copies run)) holds = refl
-held_none_made (work.Copy (Commits run)) holds = refl
-held_none_made (work.Copy (Rests actor made)) {held} holds = cc
+held_none_made does holds = grind arith
 
 pub same_attach : {one other : AttachRun} → work.Attach one ≡ work.Attach other → one ≡ other
 same_attach same = cc
@@ -279,18 +240,14 @@ sync_no_attach same = cc
 
 -- An attach that makes no commit has begun none.
 pub before_commit : (run : AttachRun) → (IsSome (attach_commit run) → ⊥) → IsBeforeCommit run
-before_commit (Reads ring) none = tt
-before_commit (Checked ring) none = tt
-before_commit (Joins join) none = none refl
-before_commit (Signs run because) none = none refl
+before_commit run none = grind (arith, none)
 
 module _ {clients news : List Client} {index : ℕ} {old client : Client} (was : slice_get clients index ≡ Some old)
     (changes : Changes clients news index client) where
   -- Other clients go on with their calls.
   pub going_on : {other : ℕ} {its : Client} {under : UnderWay} → other ≢ index → IsGoing clients other its under
       → IsGoing news other its under
-  going_on {other = other} apart going =
-      record { there = changes.others other apart ∙ going.there; under_way = going.under_way }
+  going_on {other = other} apart going = search (apart, arith)
 
   -- What holds of this one's call and of the others' holds of each.
   pub each_going : {T : ℕ → Client → UnderWay → Type 0}
@@ -311,23 +268,17 @@ module _ {clients news : List Client} {index : ℕ} {old client : Client} (was :
   pub apart_of_commit : IsNoCommit old.under_way → {other : ℕ} {its : Client} {under : UnderWay}
       → IsGoing clients other its under → MakesCommit under.work → other ≢ index
   apart_of_commit none {its = its} {under = under} going makes same =
-      let here = rw same at going in
-      no_commit_under none under (cc) makes
+      let here = rw same at going in no_commit_under none under (cc) makes
 
   -- The commit under way is a client's still, where this one's work makes and made none.
   pub commit_stays : (commit : Option CommitRun) → IsNoCommit old.under_way → IsNoCommit client.under_way
       → IsTheirs clients commit → IsTheirs news commit
   commit_stays None was_none is_none none = each_going {T = λ other its its_under. MakesCommit its_under.work → ⊥}
-      (no_commit_under is_none) (λ other its its_under apart its_going. none other its its_under its_going)
-  commit_stays (Some run) was_none is_none (other, its, its_under, its_going, is) = (
-    other,
-    its,
-    its_under,
-    search (going_on, apart_of_commit, makes_commit, is),
-    is,
-  )
+      (no_commit_under is_none) (search none)
+  commit_stays (Some run) was_none is_none (other, its, its_under, its_going, is) =
+      (other, its, its_under, search (going_on, apart_of_commit, makes_commit, is), is)
 
   -- The one commit has ended.
   pub commit_gone : IsNoCommit client.under_way → OnlyIt clients index → IsTheirs news None
   commit_gone ended only = each_going {T = λ other its under. MakesCommit under.work → ⊥} (no_commit_under ended)
-      (λ other its under apart its_going makes. apart (only other its under its_going makes))
+      (search only)
