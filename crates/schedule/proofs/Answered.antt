@@ -1,5 +1,5 @@
 -- The calls of a script that a journal answers, as clients go on.
-use Rattle.schedule.proofs.Words.{◌≡◌, ◌≢◌, ◌⊎◌, inl, inr, ⊎_elim, ℕ, ◌+◌, ◌-◌, ◌<◌, ◌≤◌, List, [], ◌∷◌, ◌++◌, length, Some, None, sym, ◌∙◌, ap, arith, slice_get, cases_eq, cases_lt, slice_get-map, Entry, Item, Group, Call, CallAt, IsAsked, ScriptCall, Script, calls_of, asked_by, grown_has, last_there, new_or_before, Client, UnderWay, ClientsAreAnswered, Changes, answered_of}
+use Rattle.schedule.proofs.Words.{◌≡◌, ◌≢◌, ◌⊎◌, inl, inr, ⊎_elim, ℕ, ◌+◌, ◌-◌, ◌<◌, ◌≤◌, List, [], ◌∷◌, ◌++◌, length, Some, None, sym, ◌∙◌, arith, slice_get, cases_eq, cases_lt, slice_get-map, Entry, Item, Group, Call, CallAt, IsAsked, ScriptCall, Script, calls_of, asked_by, grown_has, last_there, new_or_before, Client, UnderWay, ClientsAreAnswered, Changes, answered_of}
 use Rattle.core_state.specs.declared.item.Group.{Group as GroupItem}
 use Rattle.schedule.proofs.Theirs.{some_is}
 
@@ -94,21 +94,12 @@ module _ {script : Script} {old new : List Client} {index : ℕ} {before client 
     -- The entries of a caller go up.
     in_order : (place later : ℕ) (one other : Entry) → place < later → OfGrown place one → OfGrown later other
         → one.caller ≡ other.caller → one.call < other.call
-    in_order place later one other earlier (inl first) (inl second) callers = absurd (omega arith)
-    in_order place later one other earlier (inl first) (inr second) callers =
-        absurd (omega (arith, earlier, first.0, second.0))
-    in_order place later one other earlier (inr first) (inl second) callers =
-        let caller : one.caller ≡ index = callers ∙ ap (λ (e : Entry). e.caller) (sym second.1) ∙ caller_is in
-        let low = below place one first.1 caller in
-        let number : other.call ≡ answered before + 1 = ap (λ (e : Entry). e.call) (sym second.1) ∙ call_is in
-        omega arith
-    in_order place later one other earlier (inr first) (inr second) callers = search (earlier, arith)
+    in_order place later one other earlier first second callers = grind (arith, below)
 
     -- No entry answers a later call.
     each_counted : (place : ℕ) (other : Entry) → OfGrown place other
         → (its : Client) × (slice_get new other.caller ≡ Some its) × (other.call ≤ answered its)
-    each_counted place other (inl last) = search arith
-    each_counted place other (inr earlier) = search (below, cases_eq, arith)
+    each_counted place other of = grind (arith, below, cases_eq)
 
     -- the call of this number of a caller is answered
     abbrev Answers : List Item → ℕ → ℕ → Type 0

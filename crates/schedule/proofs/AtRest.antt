@@ -1,5 +1,5 @@
 -- Where a run begins, and where it ends with all calls answered.
-use Rattle.schedule.proofs.Words.{◌≡◌, ◌≢◌, ⊎_elim, ℕ, ◌+◌, ◌*◌, ◌<◌, ◌≤◌, List, [], ◌∷◌, length, suc, sym, ◌∙◌, ap, subst, arith, ne_eqb, slice_index_or, All, filter, ◌==◌, cases_eq, length-map, length-replicate, take_all, slice_get-get_or, Disk, Entry, Item, CallAt, Asked, IsComplete, Journal, ScriptCall, Placed, Script, asked_by, calls_of, Core, at_disk, HasBankOf, Client, Progress, ClientsAreAnswered, answered_of, IsSchedule, turns_of, Cursor, replay_at, replay_by, turns_by, shared_count, IsReady, AreIdle, HaveBegun, IsAtRest, blank_client, blank_clients}
+use Rattle.schedule.proofs.Words.{◌≡◌, ◌≢◌, ⊎_elim, ℕ, ◌*◌, ◌<◌, ◌≤◌, List, [], ◌∷◌, length, suc, sym, ◌∙◌, ap, arith, ne_eqb, slice_index_or, All, filter, ◌==◌, cases_eq, length-map, length-replicate, take_all, slice_get-get_or, Disk, Entry, Item, CallAt, Asked, IsComplete, Journal, ScriptCall, Placed, Script, asked_by, calls_of, Core, at_disk, HasBankOf, Client, Progress, ClientsAreAnswered, answered_of, IsSchedule, turns_of, Cursor, replay_at, replay_by, turns_by, shared_count, IsReady, AreIdle, HaveBegun, IsAtRest, blank_client, blank_clients}
 use Rattle.schedule.proofs.Rooms.{room_at_first}
 use Rattle.schedule.proofs.Theirs.{none_some}
 use Rattle.schedule.proofs.Opened.{blank_is, calls_none, none_held, none_of_blank}
@@ -17,16 +17,14 @@ pub ready_at_rest : {script : Script} {core : Core} {disk : Disk} {items : List 
     → ((index : ℕ) (entry : Entry) → CallAt items index entry → ⊥)
     → journal.items ≡ items → progress.clients.items ≡ blank_clients script.clients
     → 2 * length script.calls ≤ journal.room → IsReady script (turns_by core disk journal progress) journal.room
-ready_at_rest {script = script} {core = core} {disk = disk} {items = items} {journal = journal} progress rest bank none
-    same blank room =
-    subst (λ (clients : List Client). IsReady script (turns_of (at_disk core disk) journal.items clients) journal.room)
-    (sym blank) (rw same (record {
+ready_at_rest {script} {core} {disk} {items} {journal} progress rest bank none same blank room = rw (same, blank)
+    (record {
       schedule = schedule_at_rest script script.clients rest bank none;
       copying = λ actor copies. absurd (none_some (sym rest.copying ∙ copies));
       sharing = let none = ap shared_count rest.holds in omega (arith, none);
       counted = length-replicate script.clients blank_client;
       enough = room_at_first script script.clients room;
-    }))
+    })
 
 pub first_is : (script : Script) {core : Core} {disk : Disk} {items : List Item} (journal : Journal)
     (progress : Progress) {cursor : Cursor}
@@ -50,22 +48,18 @@ pub complete_at_rest : {script : Script} {items : List Item} {clients : List Cli
     → All (λ placed. placed.actor < script.clients) script.calls → length clients ≡ script.clients
     → ClientsAreAnswered script clients items → HaveBegun script (length script.calls) clients → AreIdle clients
     → IsComplete (asked_by script) items
-complete_at_rest {script = script} {items = items} {clients = clients} actors counted answered begun idle = record
-    { each = each }
-  where
-    each : (caller number : ℕ) → number < length (asked_by script caller)
-        → (index : ℕ) × (entry : Entry) × CallAt items index entry × (entry.caller ≡ caller) × (entry.call ≡ number + 1)
-    each caller number low =
-        let its = filter (λ (placed : Placed). placed.actor == caller) script.calls in
-        let asked = length-map {B = Asked} (calls_of script caller)
-        (λ (call : ScriptCall). record { kind = call.kind; id = call.id }) in
-        let of = length-map its (λ (placed : Placed). placed.call) in
-        let few = callers_few script.calls caller script.clients actors (omega arith) in
-        let last : Client = blank_client in
-        let there = slice_get-get_or clients caller last (omega arith) in
-        let client = slice_index_or clients caller last in
-        let enough = begun.each caller client there in
-        let all = ap (λ (calls : List Placed). length (filter (λ (placed : Placed). placed.actor == caller) calls))
-        (take_all (length script.calls) script.calls (omega arith)) in
-        let count = ap (answered_of client.begun) (idle.each caller client there) in
-        answered.every caller number client there (omega arith)
+complete_at_rest {script = script} {items = items} {clients = clients} actors counted answered begun idle = record {
+  each = λ caller number low.
+      let its = filter (λ (placed : Placed). placed.actor == caller) script.calls in
+      let asked = length-map {B = Asked} (calls_of script caller)
+      (λ (call : ScriptCall). record { kind = call.kind; id = call.id }) in
+      let of = length-map its (λ (placed : Placed). placed.call) in
+      let few = callers_few script.calls caller script.clients actors (omega arith) in
+      let there = slice_get-get_or clients caller blank_client (omega arith) in
+      let client = slice_index_or clients caller blank_client in
+      let enough = begun.each caller client there in
+      let all = ap (λ (calls : List Placed). length (filter (λ (placed : Placed). placed.actor == caller) calls))
+      (take_all (length script.calls) script.calls (omega arith)) in
+      let count = ap (answered_of client.begun) (idle.each caller client there) in
+      answered.every caller number client there (omega arith);
+}

@@ -1,17 +1,13 @@
 -- The banks with which a run's items were listed: those that its turns left.
-use Rattle.schedule.proofs.Words.{◌≡◌, ⊎_elim, ℕ, ◌<◌, ◌≤◌, List, [], ◌∷◌, length, ◌∙◌, refl, arith, length-append, get_or, cases_lt, le-ltb, lt-ltb, slice_get-get_or, Disk, ScriptCall, Script, HaveTaken, IsTurnOf, blank_client, Station, Turned, Turns, TurnTaken, AreListedWith, bank_when, last_left}
+use Rattle.schedule.proofs.Words.{◌≡◌, ⊎_elim, ℕ, ◌<◌, ◌≤◌, List, [], ◌∷◌, length, ◌∙◌, refl, arith, length-append, get_or, cases_lt, le-ltb, lt-ltb, slice_get-get_or, Disk, Script, HaveTaken, IsTurnOf, blank_client, Turns, TurnTaken, AreListedWith, bank_when, last_left}
 
 -- ---- a turn lists items at the end, or none
-
-turned_grows : {calls : List ScriptCall} (actor : ℕ) (before after : Station) → Turned calls actor before after
-    → length before.items ≤ length after.items
-turned_grows actor before after turned = grind (arith, length-append)
 
 turn_grows : {script : Script} {actor : ℕ} {before after : Turns} → IsTurnOf script actor before after
     → length before.items ≤ length after.items
 turn_grows {actor = actor} {before = before} is = ⊎_elim
     (λ low. let its = is.one (get_or before.clients actor blank_client) (search slice_get-get_or) in
-    turned_grows actor _ _ its.1) (search arith) (cases_lt actor (length before.clients))
+    grind (arith, length-append)) (search arith) (cases_lt actor (length before.clients))
 
 ends_grown : (script : Script) (start : Turns) (passed : List TurnTaken) → HaveTaken script start passed
     → length start.items ≤ length (last_left start passed).items
@@ -37,10 +33,8 @@ agree : (script : Script) {banks others : ℕ → Disk} (start : Turns) (passed 
     → HaveTaken script start passed → ((count : ℕ) → length start.items < count → banks count ≡ others count)
     → AreListedWith banks start passed → AreListedWith others start passed
 agree script start [] taken same listed = tt
-agree script start (turn ∷ later) taken same listed = (
-  search arith,
-  agree script turn.left later taken.1 (search (turn_grows, arith)) listed.1,
-)
+agree script start (turn ∷ later) taken same listed =
+    (search arith, agree script turn.left later taken.1 (search (turn_grows, arith)) listed.1)
 
 -- With these banks items were listed,
 pub are_listed : (script : Script) (start : Turns) (passed : List TurnTaken) → HaveTaken script start passed

@@ -1,5 +1,5 @@
 -- A group and the answer of the call that made it are listed at once.
-use Rattle.schedule.proofs.Words.{◌≡◌, inl, inr, ℕ, suc, ◌<◌, ◌≤◌, List, [], ◌∷◌, ◌++◌, length, refl, ap, arith, length-append, AllZip, cases_lt, Entry, Item, Group, Call, Map, PutBytes, GroupAt, IsGroupBefore, Calls, Follows, GroupsAreRight, Kept, Groups, IsGroupOf, groups_in, contains_none, grown_has, group_before_first, new_or_before, group_of_grown, width_step_where}
+use Rattle.schedule.proofs.Words.{◌≡◌, inl, inr, ℕ, suc, ◌<◌, ◌≤◌, List, [], ◌∷◌, ◌++◌, length, refl, arith, length-append, AllZip, cases_lt, Entry, Item, Group, Call, Map, PutBytes, GroupAt, IsGroupBefore, Calls, Follows, GroupsAreRight, Kept, Groups, IsGroupOf, groups_in, contains_none, grown_has, group_before_first, new_or_before, group_of_grown, width_step_where}
 use Rattle.core_state.specs.declared.item.Group.{Group as GroupItem}
 
 same_group : {one other : GroupItem} → Group one ≡ Group other → one ≡ other
@@ -13,8 +13,7 @@ one_latest {items = items} {one = one} {other = other} first second = grind (ari
 -- An answer is no group.
 groups_with_call : (items : List Item) (entry : Entry) → groups_in (items ++ Call entry ∷ []) ≡ groups_in items
 groups_with_call [] entry = refl
-groups_with_call (Group group ∷ items) entry = ap (λ (l : List GroupItem). group ∷ l) (groups_with_call items entry)
-groups_with_call (Call other ∷ items) entry = groups_with_call items entry
+groups_with_call (item ∷ items) entry = grind (arith, groups_with_call items entry)
 
 -- What a journal says of its groups it says when it has grown, where each was begun within it.
 each_later : (handed : PutBytes) (opening : Map) (items more part : List Item) (answered : List Kept)
@@ -55,8 +54,7 @@ module _ (items : List Item) (group : GroupItem) (entry : Entry) where
         → IsGroupBefore with_both index before → Follows with_both index before next
     newest before next at same is =
         let here : IsGroupBefore with_both (length items) before = rw at at is in
-        let first : IsGroupBefore items (length items) before =
-        search (group_before_first, length-append, arith) in
+        let first : IsGroupBefore items (length items) before = search (group_before_first, length-append, arith) in
         search (same, one_latest, first, arith)
 
     -- The groups are right, also where the answer tells that a device was attached with the new one.

@@ -1,8 +1,8 @@
 -- The clients' calls under way are calls of the core still, after a client's next turn.
-use Rattle.schedule.proofs.Words.{◌≡◌, ◌≢◌, ◌⊎◌, inl, inr, ℕ, ◌-◌, List, Some, None, sym, ◌∙◌, subst, slice_get, CommitRun, ScriptCall, Script, calls_of, AttachRun, IsAttachRunOf, Core, HasTooManyOut, IsCommitOf, AreCallsOf, IsBeforeCommit, attach_at_begin, Client, UnderWay, Changes, AreGoing, IsGoing, IsHoldOf, IsWorkFor, IsWorkOf, MakesCommit, calls_under_way, commit_in, arith}
+use Rattle.schedule.proofs.Words.{◌≡◌, ◌≢◌, ◌⊎◌, inl, inr, ℕ, ◌-◌, List, Some, None, sym, ◌∙◌, slice_get, CommitRun, ScriptCall, Script, calls_of, AttachRun, IsAttachRunOf, Core, HasTooManyOut, IsCommitOf, AreCallsOf, IsBeforeCommit, attach_at_begin, Client, UnderWay, Changes, AreGoing, IsGoing, IsHoldOf, IsWorkFor, IsWorkOf, calls_under_way, commit_in, arith}
 use Rattle.schedule.specs.declared.client.Work.TheVariants as work
 use Rattle.schedule.proofs.LeavesPool.{KeepsCommit}
-use Rattle.schedule.proofs.Theirs.{IsNoAttach, IsNoCommit, OnlyIt, apart_of_commit, before_commit, each_going, going_on, makes_commit, no_one, run_of, same_attach, some_is, the_one}
+use Rattle.schedule.proofs.Theirs.{IsNoAttach, IsNoCommit, OnlyIt, apart_of_commit, before_commit, each_going, going_on, makes_commit, no_one, run_of, some_is, the_one}
 
 -- What a sync's turn leaves of an attach that has begun no commit.
 pub record KeepsAttach (core now : Core) : Type 0 where
@@ -89,13 +89,7 @@ module _ {script : Script} {core now : Core} {clients news : List Client} {index
   -- or it is the client's.
   own_attaches : {under : UnderWay} {run : AttachRun} → client.under_way ≡ Some under → under.work ≡ work.Attach run
       → now.attaching ≡ Some index → OneAttaches
-  own_attaches {under} {run} client_is does attaching actor is = (
-    client,
-    under,
-    run,
-    search attaching,
-    does,
-  )
+  own_attaches {under} {run} client_is does attaching actor is = (client, under, run, search attaching, does)
 
   -- ---- turns that begin and end no commit
 
@@ -119,7 +113,7 @@ module _ {script : Script} {core now : Core} {clients news : List Client} {index
   attach_begins none no_commit under run client_is does attaching committing mine = all_go
       (λ caller its other made apart is makes. let was = (going.each caller its other is).commit made makes in cc)
       (λ caller its other joins apart is makes. let was = (going.each caller its other is).attach joins makes in cc)
-      (mine_is client_is mine) (λ actor is. cc) (own_attaches client_is does attaching)
+      (mine_is client_is mine) (search arith) (own_attaches client_is does attaching)
 
   -- It stops before its commit.
   pub attach_stops : core.attaching ≡ Some index → now.attaching ≡ None → now.committing ≡ core.committing
@@ -135,11 +129,8 @@ module _ {script : Script} {core now : Core} {clients news : List Client} {index
   -- Another's attach has begun no commit,
   others_early : KeepsAttach core now → OnlyIt clients index → OthersAttach
   others_early keeps only caller its under run apart is does =
-      let was = (going.each caller its under is).attach run does in (
-        keeps.early run (before_commit run (λ makes. apart (only caller its under is
-            (subst MakesCommit (sym does) makes)))) was.0,
-        cc,
-      )
+      let was = (going.each caller its under is).attach run does in
+      (keeps.early run (before_commit run (λ makes. apart (only caller its under is (rw does makes)))) was.0, cc)
 
   -- or there is none.
   abbrev IsAlone : Type 0
@@ -170,16 +161,9 @@ module _ {script : Script} {core now : Core} {clients news : List Client} {index
         call = call;
         there = is;
         asked = for;
-        commit = λ its_run its_does. (subst (IsCommitOf now) (some_is (cc)) of, committing);
+        commit = λ its_run its_does. (rw (let same : its_run ≡ run = some_is (cc) in same) of, committing);
         attach = its_attaches;
-      }))
-      (λ actor its. inr (
-        client,
-        under,
-        run,
-        search,
-        does_is,
-      ))
+      })) (λ actor its. inr (client, under, run, search, does_is))
 
   -- as a sync does,
   pub commits_on : {under : UnderWay} (run : CommitRun) (call : ScriptCall) → KeepsAttach core now
@@ -193,9 +177,9 @@ module _ {script : Script} {core now : Core} {clients news : List Client} {index
   pub attach_commits : {under : UnderWay} {run : AttachRun} {commit : CommitRun} {call : ScriptCall} → IsAlone
       → OnlyIt clients index → under.work ≡ work.Attach run → IsAttachRunOf now run → now.attaching ≡ Some index
       → IfItCommits under commit call
-  attach_commits {under = under} {commit = commit} {call = call} alone only does of attaching client_is =
+  attach_commits {under} {run} {commit} {call} alone only does of attaching client_is =
       commits_as under commit call (others_none alone) only (own_attaches client_is does attaching)
-      (λ its is_attach. (rw (← same_attach (sym does ∙ is_attach)) of, attaching)) client_is
+      (search arith) client_is
 
   -- or it has ended, and the client's work makes none.
   pub commit_ends : KeepsAttach core now → OnlyIt clients index → IsNoAttach old.under_way → Mine
@@ -215,5 +199,5 @@ pub one_commit : {script : Script} {core : Core} {clients : List Client} {index 
     → OnlyIt clients index
 one_commit {index = index} {old} {under} {run} going is does_is caller its its_under its_going makes =
     let found = run_of its_under.work makes in
-    some_is (sym ((going.each caller its its_under its_going).commit found.0 found.1).1
-    ∙ ((going.each index old under is).commit run does_is).1)
+    let other = (going.each caller its its_under its_going).commit found.0 found.1 in
+    let one = (going.each index old under is).commit run does_is in cc

@@ -1,5 +1,5 @@
 -- The banks that a run of turns came by, as the devices go on and as the journal grows.
-use Rattle.schedule.proofs.Words.{◌≡◌, ⊎_elim, ℕ, ◌+◌, ◌≤◌, List, [], ◌∷◌, ◌++◌, length, sym, arith, length-append, take, Contains, cases_lt, append-nil, take-append-le, take-length, Disk, Later, later_refl, later_trans, Item, Map, PutBytes, IsGroupBefore, Calls, Kept, Setting, Knows, IsGroupOf, IsBegunAfter, IsRowOf, KeepsSince, KeepsThroughout, knows_keep, since_now, since_longer, KeepsUntil, HaveParityOf, moved, KeepsTurnByTurn, KeepsOn, KeptSoFar, Past}
+use Rattle.schedule.proofs.Words.{◌≡◌, ⊎_elim, ℕ, ◌+◌, ◌≤◌, List, [], ◌∷◌, ◌++◌, length, sym, arith, length-append, take, Contains, cases_lt, append-nil, take-append-le, take-length, Disk, Later, later_refl, later_trans, Item, Map, PutBytes, IsGroupBefore, Calls, Kept, Setting, Knows, IsGroupOf, IsBegunAfter, IsRowOf, KeepsSince, KeepsThroughout, knows_keep, since_now, KeepsUntil, HaveParityOf, KeepsTurnByTurn, KeepsOn, KeptSoFar, Past}
 use Rattle.core_state.specs.declared.item.Group.{Group as GroupItem}
 
 -- The last group of a journal, and at most one that was begun after it, of the parity of the groups known.
@@ -24,30 +24,16 @@ whole_row first later = record { before = []; after = []; row = sym (append-nil 
 
 module _ {setting : Setting} {calls : Calls} {handed : PutBytes} {opening : Map} {items : List Item}
     {item : GroupItem} {last : Kept} {begun : List Kept} where
-  -- The devices go on, and what they keep with them.
-  pub on_goes : {from now next : Disk} → KeepsOn setting calls handed opening items item last begun from now
-      → Later now next
-      → (KeepsSince setting (last ∷ begun) from.clock now → KeepsSince setting (last ∷ begun) from.clock next)
-      → KeepsOn setting calls handed opening items item last begun from next
-  on_goes {from} {now} {next} on later keeps = search (later_trans, arith)
+  -- The devices go on, or groups are begun, and each image keeps some in a row still.
+  pub on_goes : {onward : List Kept} {from now next : Disk}
+      → KeepsOn setting calls handed opening items item last begun from now → Later now next
+      → (KeepsSince setting (last ∷ begun) from.clock now → KeepsSince setting (last ∷ onward) from.clock next)
+      → KeepsOn setting calls handed opening items item last onward from next
+  on_goes {onward} {from} {now} {next} on later keeps = search (later_trans, arith)
 
-  -- Groups that are begun are no loss.
-  pub on_wider : {from now : Disk} (more : List Kept) → KeepsOn setting calls handed opening items item last begun from
-      now → KeepsOn setting calls handed opening items item last (begun ++ more) from now
-  on_wider {from = from} {now = now} more on = record {
-    later = on.later;
-    first = on.first;
-    one = on.one;
-    first_is = on.first_is;
-    reach = on.reach;
-    keeps = on.keeps;
-    since = since_longer setting (last ∷ begun) more from.clock now on.since;
-  }
-
-module _ {setting : Setting} {calls : Calls} {handed : PutBytes} {opening : Map} {known : List Kept} {items : List Item}
-    {item : GroupItem} {last : Kept} {begun : List Kept} where
   -- What is certain now the bank keeps, in a pool that reaches so far, and each image from now on.
-  pub on_now : {now : Disk} {reach : ℕ} → AreLatest calls handed opening known items item last begun
+  pub on_now : {known : List Kept} {now : Disk} {reach : ℕ}
+      → AreLatest calls handed opening known items item last begun
       → Knows (record setting { reach = reach }) last begun now
       → KeepsOn setting calls handed opening items item last begun now now
   on_now {now = now} {reach = reach} are knows = record {
@@ -62,22 +48,12 @@ module _ {setting : Setting} {calls : Calls} {handed : PutBytes} {opening : Map}
   }
 
   -- So the bank kept the last group until then.
-  pub until_of : {from now : Disk} → AreLatest calls handed opening known items item last begun
+  pub until_of : {known : List Kept} {from now : Disk} → AreLatest calls handed opening known items item last begun
       → KeepsOn setting calls handed opening items item last begun from now
       → KeepsUntil setting calls handed opening known items from now
   until_of are on = record {
     later = on.later;
-    kept = record {
-      group = item;
-      latest = are.latest;
-      last = last;
-      last_is = are.last_is;
-      begun = on.first;
-      one = on.one;
-      begun_is = on.first_is;
-      reach = on.reach;
-      keeps = on.keeps;
-    };
+    kept = search;
     onward = begun;
     one = are.one;
     onward_is = are.begun_is;
@@ -101,12 +77,10 @@ module _ {setting : Setting} {calls : Calls} {handed : PutBytes} {opening : Map}
   -- Until now the bank kept the last group of so many items, if this is the bank of one more.
   until : (count : ℕ) → past.banks (length items + 1) ≡ now → 1 ≤ count → count ≤ length items
       → KeepsUntil setting calls handed opening known (take count items) (past.banks count) (past.banks (count + 1))
-  until count next from below = ⊎_elim
-      (search arith)
+  until count next from below = ⊎_elim (search arith)
       (λ (not_less : length items ≤ count).
       let end : count ≡ length items = omega arith in
-      moved setting calls handed opening known items _ (past.banks (length items)) now _ _
-      (search (take-length, arith)) (cc) (cc) (until_of are on)) (cases_lt count (length items))
+      rw (end, take-length, next) (until_of are on)) (cases_lt count (length items))
 
   -- One item more is listed with this bank,
   pub kept_more : (new : Item) → past.banks (length items + 1) ≡ now

@@ -1,5 +1,6 @@
 -- The journal of an only client follows the lines of the script, whoever's turns they were.
-use Rattle.schedule.proofs.Words.{◌≡◌, ◌⊎◌, inl, inr, ℕ, zero, suc, ◌+◌, ◌-◌, ◌<◌, ◌≤◌, List, [], ◌∷◌, ◌++◌, length, Option, Some, None, Bool, refl, sym, ◌∙◌, ap, subst, arith, slice_get, filter, map, not, replicate, take, All, ◌==◌, ⊤, append-nil, length-map, length-replicate, replicate_more, length-filter_both, slice_get_within, Answer, Kind, Entry, Item, Group, Call, CallAt, GroupAt, IsAnswerOf, ScriptCall, Placed, Script, calls_of, Rests, Copies, Turn, More, Busy, Done, Core, CoreState, point_after, new_or_before, Client, UnderWay, Work, answered_of, HaveTaken, IsTurnOf, FollowsLines, callers_in, Station, Turned, Nothing, Began, Went, BeginsCall, BeginsWork, GoesOnBy, LeavesBegun, LeavesGoing, entry_for, group_by, group_for, listed_for, listed_of, listed_on, begun_at, made_by, made_in, Turns, TurnTaken, last_left, first_turns}
+use Rattle.schedule.proofs.Words.{◌≡◌, ◌⊎◌, inl, inr, ℕ, zero, suc, ◌+◌, ◌-◌, ◌<◌, ◌≤◌, List, [], ◌∷◌, ◌++◌, length, Option, Some, None, refl, sym, ◌∙◌, ap, subst, arith, slice_get, filter, map, not, replicate, take, All, ◌==◌, ⊤, append-nil, length-map, length-replicate, replicate_more, length-filter_both, slice_get_within, Answer, Kind, Entry, Item, Group, Call, CallAt, GroupAt, IsAnswerOf, ScriptCall, Placed, Script, calls_of, Rests, Copies, Turn, More, Busy, Done, Core, CoreState, point_after, new_or_before, Client, UnderWay, Work, answered_of, HaveTaken, IsTurnOf, FollowsLines, callers_in, Station, Turned, BeginsCall, BeginsWork, GoesOnBy, LeavesBegun, LeavesGoing, entry_for, group_by, group_for, listed_for, listed_of, listed_on, begun_at, made_by, made_in, Turns, TurnTaken, last_left, first_turns, ⊎_elim, get_or, blank_client, slice_get-get_or, cases_lt}
+use Rattle.std.proofs.lemmas.Option.{slice_get_past}
 use Rattle.core_state.specs.declared.answer.Kind.TheVariants as kind
 use Rattle.core_state.specs.declared.item.Group.{Group as GroupItem}
 use Rattle.schedule.specs.declared.client.Work.TheVariants as work
@@ -14,8 +15,7 @@ use Rattle.schedule.proofs.Theirs.{some_is}
 
 callers_more : (items more : List Item) → callers_in (items ++ more) ≡ callers_in items ++ callers_in more
 callers_more [] more = refl
-callers_more (Group group ∷ items) more = callers_more items more
-callers_more (Call entry ∷ items) more = ap (λ (l : List ℕ). entry.caller ∷ l) (callers_more items more)
+callers_more (item ∷ items) more = grind (arith, callers_more items more)
 
 call_is : {one other : Entry} → Call one ≡ Call other → one ≡ other
 call_is is = cc
@@ -222,24 +222,17 @@ module _ {script : Script} (before after : Station) (goes : GoesAlone script bef
       counted = let some = (goes.under under going).1 in let same = answered_by going in omega (arith, some, same)
 
   turn_alone : Turned (calls_of script 0) 0 before after → Now after.items after.client
-  turn_alone (Nothing nothing) = moved (cc) (cc) goes
-  turn_alone (Began turn begun leaves) = search (begins, arith)
-  turn_alone (Went under turn went leaves) = search (goes_further, under)
+  turn_alone turned = grind (arith, begins, goes_further)
 
 -- ---- turn after turn
 
 -- There is an only client, or none, and the journal follows the lines.
 record AreAlone (script : Script) (turns : Turns) : Type 0 where
-  few : length turns.clients ≤ 1
+  few : slice_get turns.clients 1 ≡ None
   answered : ℕ
   follows : Follows turns.items answered
   within : answered ≤ length (calls_of script 0)
   each : (client : Client) → slice_get turns.clients 0 ≡ Some client → GoesAlone script turns.items client
-
-second_none : (clients : List Client) → length clients ≤ 1 → slice_get clients 1 ≡ None
-second_none [] few = refl
-second_none (only ∷ []) few = refl
-second_none (first ∷ second ∷ clients) few = absurd (omega arith)
 
 none_second : (clients : List Client) → slice_get clients 1 ≡ None → length clients ≤ 1
 none_second [] none = omega arith
@@ -252,29 +245,24 @@ answered_within under few = grind arith
 
 one_alone : (script : Script) (actor : ℕ) (before after : Turns) → IsTurnOf script actor before after
     → AreAlone script before → AreAlone script after
-one_alone script actor before after turn alone = by actor refl before.clients refl
+one_alone script actor before after turn alone = ⊎_elim
+    (λ low. taken (get_or before.clients actor blank_client) (omega (arith, low, none_second before.clients alone.few))
+    (slice_get-get_or before.clients actor blank_client low))
+    (λ past. rw (turn.none past) alone) (cases_lt actor (length before.clients))
   where
-    taken : (client : Client) → actor ≡ 0 → slice_get before.clients 0 ≡ Some client → AreAlone script after
+    taken : (client : Client) → actor ≡ 0 → slice_get before.clients actor ≡ Some client → AreAlone script after
     taken client first there =
-        let its = turn.one client (cc) in
+        let its = turn.one client there in
         let now = turn_alone (record { state = before.state; items = before.items; client = client })
-        (record { state = after.state; items = after.items; client = its.0 }) (alone.each client there)
+        (record { state = after.state; items = after.items; client = its.0 }) (alone.each client (cc))
         (rw first at its.1) in
         record {
-          few = none_second after.clients (its.2.others 1 (λ one. omega (arith, first, one))
-              ∙ second_none before.clients alone.few);
+          few = its.2.others 1 (λ one. omega (arith, first, one)) ∙ alone.few;
           answered = answered_of its.0.begun its.0.under_way;
           follows = now.follows;
           within = answered_within its.0.under_way now.few;
           each = λ other is. rw (let same : its.0 ≡ other = some_is (cc) in same) at now;
         }
-
-    by : (whose : ℕ) → actor ≡ whose → (clients : List Client) → before.clients ≡ clients → AreAlone script after
-    by whose is [] none = rw (turn.none (let long = ap length none in omega (arith, long))) alone
-    by zero is (only ∷ []) there = taken only is (cc)
-    by (suc behind) is (only ∷ []) there = rw (turn.none (let long = ap length there in omega (arith, long, is))) alone
-    by whose is (first ∷ second ∷ clients) there =
-        absurd (let few = alone.few in let long = ap length there in omega (arith, few, long))
 
 all_alone : {script : Script} {start : Turns} (passed : List TurnTaken) → HaveTaken script start passed
     → AreAlone script start → AreAlone script (last_left start passed)
@@ -295,19 +283,19 @@ firsts one (first ∷ calls) (suc count) actors few =
     cc (firsts one calls count (λ place other low. actors (suc place) other (omega arith)) (omega (arith, few)))
 
 its_calls : (script : Script) → length (calls_of script 0) ≤ length script.calls
-its_calls script =
-    let its : Placed → Bool = λ placed. placed.actor == 0 in
-    omega (
-      arith,
-      length-filter_both its (λ placed. not (its placed)) (λ placed. refl) script.calls,
-      length-map (filter its script.calls) (λ (placed : Placed). placed.call),
-    )
+its_calls script = omega (
+  arith,
+  length-filter_both (λ (placed : Placed). placed.actor == 0)
+      (λ placed. not (placed.actor == 0)) (λ placed. refl) script.calls,
+  length-map
+      (filter (λ (placed : Placed). placed.actor == 0) script.calls) (λ (placed : Placed). placed.call),
+)
 
 -- A run begins with the opening's group,
 begins_alone : (script : Script) {start : CoreState} (opened : GroupItem) → script.clients ≤ 1 → opened.after ≡ 0
     → AreAlone script (first_turns script start opened)
 begins_alone script opened one first = record {
-  few = search length-replicate;
+  few = search (slice_get_past, length-replicate);
   answered = 0;
   follows = nothing;
   within = omega arith;

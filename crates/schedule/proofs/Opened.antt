@@ -27,7 +27,7 @@ pub blank_is : (count index : ℕ) {client : Client} → slice_get (blank_client
     → client ≡ blank_client
 blank_is zero index there = cc
 blank_is (suc count) zero there = cc
-blank_is (suc count) (suc index) {client = client} there = blank_is count index there
+blank_is (suc count) (suc index) there = blank_is count index there
 
 -- and has none under way.
 pub none_of_blank : (count : ℕ) {index : ℕ} {client : Client} {under : UnderWay}

@@ -64,9 +64,6 @@ leaves_same old same = search (same, adds_none)
 -- and so a put is refused, whatever its first turn answers.
 pub put_refused : {old new : Core} (id len : ℕ) (given : Answer) → IsPutRefused old new id len given
     → Refuses old new given
-put_refused {old = old} id len (answer.TooManyFailed out) is =
+put_refused {old} {new} id len (answer.TooManyFailed out) is =
     record { leaves = leaves_same old is.2; unstored = tt; tells = tells_out old is.0 is.1 }
-put_refused id len answer.Full is = record { leaves = is.2; unstored = tt; tells = λ listed told. cc }
-put_refused id len (answer.NoSpace sectors) is = record { leaves = is.3; unstored = tt; tells = λ listed told. cc }
-put_refused id len answer.NoMemory is = record { leaves = is.1; unstored = tt; tells = λ listed told. cc }
-put_refused id len other is = absurd is
+put_refused {old} {new} id len given is = search arith

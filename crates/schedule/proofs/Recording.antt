@@ -1,5 +1,5 @@
 -- A journal goes on to tell what it did, turn by turn: the devices go on, a commit begins or ends, a call is answered.
-use Rattle.schedule.proofs.Words.{◌≡◌, ℕ, ◌≤◌, List, [], ◌∷◌, ◌++◌, length, refl, sym, ◌∙◌, arith, append_assoc, length-append, ◌+◌, append-nil, Contains, ⊤, Disk, Later, Entry, Item, Group, Call, Map, PutBytes, IsGroupBefore, IsAnswerOf, Calls, Follows, IsAttachOf, Kept, Setting, Knows, AwaitsAttach, IsGroupOf, IsBegunAfter, Groups, IsRowOf, KeepsSince, KeepsThroughout, World, knows_keep, contains_head, contains_none, contains_tail, Stage, Lays, since_longer, shown_in, KeepsLast, HaveParityOf, parity_with, map_before, answers_grown_call, answers_grown_group, groups_grown_call, latest_grown_call, latest_grown_group, group_of_grown, after_listed, width_step_where, groups_grown_group, groups_call, groups_end, groups_begun, groups_cut, contains_one, row_among, each_grown_call, each_grown_group, HasBegun, Recorded, IsRightNext, IsBegunAt, KeepsTurnByTurn, Past, CallAt, GroupsAreRight, AnswersAreCaused, KeptSoFar}
+use Rattle.schedule.proofs.Words.{◌≡◌, ℕ, ◌≤◌, List, [], ◌∷◌, ◌++◌, length, refl, sym, ◌∙◌, arith, append_assoc, length-append, ◌+◌, append-nil, Contains, ⊤, Disk, Later, Entry, Item, Group, Call, Map, PutBytes, IsGroupBefore, IsAnswerOf, Calls, Follows, IsAttachOf, Kept, Setting, Knows, AwaitsAttach, IsGroupOf, IsBegunAfter, Groups, IsRowOf, KeepsSince, KeepsThroughout, World, knows_keep, contains_head, contains_none, contains_tail, Stage, Lays, since_longer, shown_in, KeepsLast, HaveParityOf, parity_with, map_before, answers_grown_call, answers_grown_group, groups_grown_call, latest_grown_call, latest_grown_group, group_of_grown, after_listed, width_step_where, groups_grown_group, groups_call, groups_end, groups_begun, groups_cut, contains_one, row_among, each_grown_call, each_grown_group, HasBegun, Recorded, IsRightNext, IsBegunAt, KeepsTurnByTurn, Past, CallAt, GroupsAreRight, AnswersAreCaused, KeptSoFar, later_refl}
 use Rattle.std.specs.Prelude.{◌≢◌}
 use Rattle.core_state.specs.declared.answer.Answer.TheVariants as answer
 use Rattle.core_state.specs.declared.item.Group.{Group as GroupItem}
@@ -7,7 +7,7 @@ use Rattle.core_state.specs.Legal.{AnswersAreRight}
 use Rattle.core_commit.specs.declared.commit_run.Stage.TheVariants.{Signs}
 use Rattle.schedule.proofs.BothListed.{both_right, groups_both}
 use Rattle.schedule.proofs.Caused.{caused_call, caused_group}
-use Rattle.schedule.proofs.Moments.{AreLatest, whole_row, on_goes, on_now, on_wider, kept_more, kept_to_end, since_any_reach}
+use Rattle.schedule.proofs.Moments.{AreLatest, whole_row, on_goes, on_now, kept_more, kept_to_end, since_any_reach}
 
 -- Where the groups stand as one is begun, and as it is answered.
 in_row : (known earlier begun : List Kept) (last : Kept)
@@ -175,7 +175,7 @@ module _ {world : World} {past : Past} {items : List Item} {item : GroupItem} {l
           parity = rw row at (parity_with world.known all last next
               (row_among (row_now so_far) last (contains_head last [])) parity so_far.parity);
           no_older = so_far.no_older;
-          kept_on = on_wider (next ∷ []) so_far.kept_on;
+          kept_on = on_goes so_far.kept_on (later_refl now) (since_longer world.setting (last ∷ []) (next ∷ []) _ now);
         }
 
 -- A group has the parity of the last one, whichever it is that was begun.

@@ -1,10 +1,9 @@
 -- What an attach is answered that made no group.
-use Rattle.schedule.proofs.Words.{◌≡◌, ℕ, List, length, arith, ⊤, true, FaultCounted, Disk, has_device, HasReadRing, RingRead, Answer, Entry, Item, IsAnswerOf, IsGroupBefore, IsRightAttach, Map, PutBytes, map_after_answer, World, WhyDropped, IsAttachRefused, IsDeviceRefused, IsSyncRefused, Core, CoreState, HasTooManyOut, IsAnswerCause, IsDeviceCause, IsRightNext}
+use Rattle.schedule.proofs.Words.{◌≡◌, ℕ, List, length, arith, ⊤, true, FaultCounted, Disk, has_device, HasReadRing, RingRead, Answer, Entry, Item, IsAnswerOf, IsGroupBefore, Map, PutBytes, map_after_answer, World, WhyDropped, IsAttachRefused, IsDeviceRefused, IsSyncRefused, Core, CoreState, HasTooManyOut, IsAnswerCause, IsDeviceCause, IsRightNext}
 use Rattle.core_state.specs.declared.answer.Answer.TheVariants as answer
 use Rattle.core_state.specs.declared.answer.Kind.TheVariants as kind
 use Rattle.core_state.specs.declared.item.Group.{Group as GroupItem}
 use Rattle.join_commit.specs.declared.join_run.WhyDropped.TheVariants as why
-use Rattle.schedule.proofs.RightNext.{untold_right}
 
 -- Why no device was attached, but that no number was left for a group.
 abbrev pub IsRefusal : Answer → Type 0
@@ -26,14 +25,9 @@ pub refusal_map : (handed : PutBytes) (map : Map) (entry : Entry) (given : Answe
 refusal_map handed map entry given refusal = grind arith
 
 -- It is right wherever it is listed, with its cause.
-no_attach_told : (items : List Item) (previous index : ℕ) (given : Answer) → IsRefusal given
-    → IsRightAttach items previous index given
-no_attach_told items previous index given refusal = grind arith
-
 pub refusal_right : {world : World} {items : List Item} {entry : Entry} {disk : Disk} → entry.kind ≡ kind.Attach
     → IsRefusal entry.answer → IsAnswerCause items (length items) disk entry.answer → IsRightNext world items entry disk
-refusal_right {world = world} {items = items} {entry = entry} {disk = disk} asked refusal = search
-    (untold_right, no_attach_told, arith)
+refusal_right {world = world} {items = items} {entry = entry} {disk = disk} asked refusal caused = grind arith
 
 -- ---- the first turn
 
@@ -92,11 +86,6 @@ pub device_caused : (before : CoreState) (ring : RingRead) (after : CoreState) (
     {item : GroupItem} {index : ℕ} → IsGroupBefore items index item → ring.device ≡ before.core.pool.uber.reflow.to
     → before.core.pool.uber.reflow.to ≡ item.to → HasReadRing after.disk ring
     → IsDeviceRefused before ring after given → IsAnswerCause items index after.disk given
-device_caused before ring after (answer.NewDeviceFailed device) latest behind to_is read refused = tt
-device_caused before ring after (answer.Taken slot) {item = item} latest behind to_is read refused = (
-  ring.device,
-  (item, latest, cc),
-  search arith,
-)
-device_caused before ring after (answer.TooManyFailed out) latest behind to_is read refused = tt
-device_caused before ring after other latest behind to_is read refused = absurd refused
+device_caused before ring after (answer.Taken slot) {item = item} latest behind to_is read refused =
+    (ring.device, (item, latest, cc), search arith)
+device_caused before ring after given latest behind to_is read refused = grind arith

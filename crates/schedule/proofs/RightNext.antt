@@ -1,5 +1,5 @@
 -- The next entry is right where it is listed.
-use Rattle.schedule.proofs.Words.{◌≡◌, inr, ℕ, ◌+◌, ◌≤◌, List, [], ◌∷◌, ◌++◌, length, Option, Some, None, refl, sym, subst, arith, length-append, option_and_then, ⊤, Disk, Answer, Kind, Entry, Item, Group, Call, Map, PutBytes, map_of, map_after, IsAnsweredGroup, IsPrevious, IsGroupBefore, IsReadOf, IsCutShort, IsRightAttach, IsRightCopy, IsRightRead, IsRightFree, IsRightCall, World, max_group, IsReadKind, group_before_first, grown_has, last_there, map_before, map_at_end, IsAnswerCause, IsGroupKind, IsRightNext, AllBelow}
+use Rattle.schedule.proofs.Words.{◌≡◌, inr, ℕ, ◌+◌, ◌≤◌, List, [], ◌∷◌, ◌++◌, length, Option, Some, None, refl, sym, subst, arith, length-append, option_and_then, ⊤, Disk, Answer, Kind, Entry, Item, Group, Call, Map, PutBytes, map_of, map_after, IsAnsweredGroup, IsPrevious, IsGroupBefore, IsReadOf, IsRightAttach, IsRightCopy, IsRightRead, IsRightFree, IsRightCall, World, max_group, IsReadKind, group_before_first, grown_has, last_there, map_before, map_at_end, IsAnswerCause, IsGroupKind, IsRightNext, AllBelow}
 use Rattle.std.specs.Prelude.{◌≢◌}
 use Rattle.core_state.specs.declared.answer.Answer.TheVariants as answer
 use Rattle.core_state.specs.declared.answer.Kind.TheVariants as kind
@@ -21,27 +21,11 @@ IsPlain (answer.Taken slot) = ⊥
 IsPlain (answer.Paused device) = ⊥
 IsPlain other = ⊤
 
--- Then nothing else is needed for its cause.
-plain_caused : (items : List Item) (index : ℕ) (disk : Disk) (given : Answer) → IsPlain given
-    → IsAnswerCause items index disk given
-plain_caused items index disk given plain = grind arith
-
 -- The call was cut short: too many devices are out, or memory is wanting.
 abbrev pub IsStopped : Answer → Type 0
 IsStopped (answer.TooManyFailed out) = ⊤
 IsStopped answer.NoMemory = ⊤
 IsStopped other = ⊥
-
-stopped_plain : (given : Answer) → IsStopped given → IsPlain given
-stopped_plain given stopped = grind arith
-
-stopped_cut : (given : Answer) → IsStopped given → IsCutShort given
-stopped_cut given stopped = grind arith
-
--- A sync or an attach that was cut short tells of no group, and a copy of no end.
-cut_group : (handed : PutBytes) (opening : Map) (items : List Item) (previous index : ℕ) (entry : Entry) (asked : Kind)
-    → IsGroupKind asked → IsCutShort entry.answer → IsRightCall handed opening items previous index entry asked
-cut_group handed opening items previous index entry asked group cut = grind arith
 
 -- What a read answers of a map is plain.
 read_plain : (held : Option (List ℕ)) (asked : Kind) (given : Answer) → IsReadOf held asked given → IsPlain given
@@ -63,7 +47,7 @@ module _ (world : World) (items : List Item) (entry : Entry) (disk : Disk) where
       → IsRightCall world.handed world.opening with_entry previous (length items) entry asked
 
   next_plain : IsPlain entry.answer → IsRightAs entry.kind → IsRightNext world items entry disk
-  next_plain plain right = search (plain_caused, arith)
+  next_plain plain right = grind arith
 
   -- A get or a sum that speaks of the map after some of the items, all of its caller's among them.
   pub read_right : (at : ℕ) → IsReadKind entry.kind → entry.at ≡ Some at → 1 ≤ at → at ≤ length items
@@ -82,42 +66,32 @@ module _ (world : World) (items : List Item) (entry : Entry) (disk : Disk) where
   -- One that was cut short.
   pub read_cut_right : IsReadKind entry.kind → entry.at ≡ None → IsStopped entry.answer
       → IsRightNext world items entry disk
-  read_cut_right asked at_is stopped = search (next_plain, stopped_plain, read_call, stopped_cut, arith)
+  read_cut_right asked at_is stopped = grind arith
 
   -- A put, whatever else it answers.
   pub put_right : entry.kind ≡ kind.Put → IsPlain entry.answer → IsRightNext world items entry disk
-  put_right asked plain = search (next_plain, arith)
+  put_right asked plain = grind arith
 
   -- A free that speaks of the map after all items.
   pub free_right : entry.kind ≡ kind.Free → IsPlain entry.answer
       → IsRightFree (option_and_then (map_of world.handed world.opening items) entry.id) entry.answer
       → IsRightNext world items entry disk
-  free_right asked plain is = search (next_plain, map_before, map_at_end, arith)
+  free_right asked plain is = grind (arith, map_before, map_at_end)
 
   -- A sync, an attach or a copy that was cut short.
   pub group_cut_right : IsGroupKind entry.kind → IsStopped entry.answer → IsRightNext world items entry disk
-  group_cut_right asked stopped = search (next_plain, stopped_plain, cut_group, stopped_cut)
+  group_cut_right asked stopped = grind arith
 
   -- One that found no number left for its group.
   pub group_limit_right : (item : GroupItem) → IsGroupKind entry.kind → entry.answer ≡ answer.Limit max_group
       → IsGroupBefore items (length items) item → max_group ≤ item.group + 1 → IsRightNext world items entry disk
-  group_limit_right item asked answer_is latest at_last = search (cut_group, arith)
+  group_limit_right item asked answer_is latest at_last = grind arith
 
   -- A copy that is done, where the last group before it has this one width, or that told of another end.
   pub copy_right : entry.kind ≡ kind.Copy → entry.answer ≢ answer.Damaged
       → IsRightCopy with_entry (length items) entry.answer → IsAnswerCause items (length items) disk entry.answer
       → IsRightNext world items entry disk
   copy_right asked sound right caused = search arith
-
-  -- An attach that told of no group.
-  pub untold_right : entry.kind ≡ kind.Attach → entry.answer ≢ answer.Damaged
-      → ((listed : List Item) (previous index : ℕ) → IsRightAttach listed previous index entry.answer)
-      → IsAnswerCause items (length items) disk entry.answer → IsRightNext world items entry disk
-  untold_right asked sound right caused = record {
-    right = subst IsRightAs (sym asked) (search);
-    sound = sound;
-    caused = caused;
-  }
 
 module _ (world : World) (items : List Item) (group : GroupItem) (entry : Entry) (disk : Disk) where
   abbrev with_group : List Item
@@ -141,7 +115,7 @@ module _ (world : World) (items : List Item) (group : GroupItem) (entry : Entry)
   -- A sync that ended a group, which is listed just before it and was begun after all items of its caller.
   pub sync_right : entry.kind ≡ kind.Sync → entry.answer ≡ answer.Synced group.group → 1 ≤ group.after
       → AllBelow items entry.caller group.after → IsRightNext world (items ++ Group group ∷ []) entry disk
-  sync_right asked answer_is some below = search (next_plain, answered_group, arith)
+  sync_right asked answer_is some below = grind (arith, answered_group)
 
   -- An attach that did, whose group begins the expansion of a pool at rest.
   pub attached_right : {last : GroupItem} {width : ℕ} → entry.kind ≡ kind.Attach

@@ -1,7 +1,6 @@
 -- Rounds of turns: each client with a call under way has a turn, until all are idle.
 use Rattle.schedule.proofs.Words.{◌≡◌, ℕ, ◌+◌, ◌<◌, ◌≤◌, List, [], ◌∷◌, length, Option, Some, None, zero, suc, refl, arith, slice_get, true, cases_eq, true≢false, Client, UnderWay, most_turns, is_any_busy, is_busy_at, AreIdle, HasComeRound}
 use Rattle.std.specs.Prelude.{false}
-use Rattle.schedule.proofs.Theirs.{none_some}
 
 -- Where any client has a call under way, one of them has,
 pub any_busy : (clients : List Client) → is_any_busy clients ≡ true
@@ -9,28 +8,21 @@ pub any_busy : (clients : List Client) → is_any_busy clients ≡ true
 any_busy [] is = cc
 any_busy (first ∷ clients) is = by first.under_way refl (λ idle. any_busy clients (cc))
   where
-    Busy : List Client → Type 0
-    Busy list = (index : ℕ) × (index < length list) × (is_busy_at list index ≡ true)
-
-    by : (under : Option UnderWay) → first.under_way ≡ under → (first.under_way ≡ None → Busy clients)
-        → Busy (first ∷ clients)
+    by : (under : Option UnderWay) → first.under_way ≡ under
+        → (first.under_way ≡ None → (index : ℕ) × (index < length clients) × (is_busy_at clients index ≡ true))
+        → (index : ℕ) × (index < length (first ∷ clients)) × (is_busy_at (first ∷ clients) index ≡ true)
     by None idle later = let found = later idle in (suc found.0, omega (arith, found.1), found.2)
     by (Some under) going later = search arith
 
 -- and where none has, all are idle.
 pub none_busy_idle : (clients : List Client) → is_any_busy clients ≡ false → AreIdle clients
-none_busy_idle [] is = search (none_some, arith)
-none_busy_idle (first ∷ clients) is = by first.under_way refl (λ idle. none_busy_idle clients (cc))
+none_busy_idle clients is = record { each = by clients is }
   where
-    by : (under : Option UnderWay) → first.under_way ≡ under → (first.under_way ≡ None → AreIdle clients)
-        → AreIdle (first ∷ clients)
-    by (Some under) going later = cc
-    by None idle later = record { each = each_idle (later idle) }
-      where
-        each_idle : AreIdle clients → (index : ℕ) (client : Client) → slice_get (first ∷ clients) index ≡ Some client
-            → client.under_way ≡ None
-        each_idle later zero client there = cc
-        each_idle later (suc index) client there = later.each index client there
+    by : (clients : List Client) → is_any_busy clients ≡ false → (index : ℕ) (client : Client)
+        → slice_get clients index ≡ Some client → client.under_way ≡ None
+    by [] is index client there = cc
+    by (first ∷ clients) is zero client there = grind arith
+    by (first ∷ clients) is (suc index) client there = by clients (grind arith) index client there
 
 -- A busy client has a call under way.
 pub busy_under : (clients : List Client) (actor : ℕ) {client : Client} → slice_get clients actor ≡ Some client

@@ -45,8 +45,8 @@ pub client_grown : {world : World} {script : Script} {items : List Item} (more :
     → ((place : ℕ) (entry : Entry) → CallAt (items ++ more) place entry → entry.caller ≡ index
     → CallAt items place entry) → IsClient world script items item begun content index client under
     → IsClient world script (items ++ more) now onward content index client under
-client_grown {world = world} {items = items} more {content = content} {under = under} group none is = search
-    (length-append, content_grown, arith)
+client_grown {world} {script} {items} more {content = content} {under = under} group none is = grind
+    (arith, length-append, content_grown)
 
 -- ---- the bytes of one more client's block
 

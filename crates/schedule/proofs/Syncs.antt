@@ -8,18 +8,17 @@ use Rattle.schedule.proofs.Theirs.{OnlyIt, makes_commit, some_is}
 
 -- ---- the core's commit
 
--- What is certain of the last group and of those that images can show, whether a commit is under way or not.
-pub stands_know : {setting : Setting} {last : Kept} {begun : List Kept} {map : Map} {contents : ℕ → List ℕ}
-    {calls : List HoldingCall} {commit : Option CommitRun} {state : CoreState}
-    → Stands setting last begun map contents calls commit state → Knows setting last (shown_of begun commit) state.disk
-stands_know {setting} {last} {begun} {calls = calls} {commit} {state} stands = search
-    (shown_one, committing_knows, arith)
+module _ {setting : Setting} {last : Kept} {begun : List Kept} {map : Map} {contents : ℕ → List ℕ}
+    {calls : List HoldingCall} {state : CoreState} where
+  -- What is certain of the last group and of those that images can show, whether a commit is under way or not.
+  pub stands_know : {commit : Option CommitRun} → Stands setting last begun map contents calls commit state
+      → Knows setting last (shown_of begun commit) state.disk
+  stands_know {commit} stands = search (shown_one, committing_knows, arith)
 
--- The group of a commit has the parity of the last one.
-pub begun_parity : {setting : Setting} {last : Kept} {begun : List Kept} {map : Map} {contents : ℕ → List ℕ}
-    {calls : List HoldingCall} {run : CommitRun} {state : CoreState}
-    → Stands setting last begun map contents calls (Some run) state → HasParityOf last begun
-begun_parity stands kept is = cc
+  -- The group of a commit has the parity of the last one.
+  pub begun_parity : {run : CommitRun} → Stands setting last begun map contents calls (Some run) state
+      → HasParityOf last begun
+  begun_parity stands kept is = cc
 
 -- A call of a commit is in the half that it is in, or in the second one.
 pub halves_go : {run next : CommitRun} {before after : Point} → HasCalled run before next after
@@ -28,9 +27,8 @@ halves_go {run} {next} {before} did = grind arith
 
 -- Where the core has no commit under way, none stands;
 pub no_commit : (setting : Setting) (last : Kept) (begun : List Kept) (calls : List HoldingCall)
-    (commit : Option CommitRun)
-    (state : CoreState) → state.core.committing ≡ None → GroupsStand setting last begun calls commit state
-    → commit ≡ None
+    (commit : Option CommitRun) (state : CoreState) → state.core.committing ≡ None
+    → GroupsStand setting last begun calls commit state → commit ≡ None
 no_commit setting last begun calls commit state none groups = grind arith
 
 -- and the one that stands is that of the client whose work makes one.

@@ -1,5 +1,5 @@
 -- The calls under way of some clients, of whom one has changed.
-use Rattle.schedule.proofs.Words.{◌≡◌, ◌≢◌, ⊎_elim, ℕ, zero, suc, List, [], ◌∷◌, ◌++◌, Option, Some, None, sym, ◌∙◌, ap, subst, refl, Contains, IsSome, slice_get, ⊤, cases_eq, false≢true, Contains-append_cases, Contains-append_left, Contains-append_right, flat_map-append, Gains, listed_cases, none_listed, CommitRun, Script, AttachRun, attach_commit, Core, HoldingCall, actor_of, IsBeforeCommit, Client, UnderWay, Work, Changes, AreGoing, IsGoing, IsHoldOf, IsTheirs, MakesCommit, call_of_client, calls_under_way, commit_in, held_by, held_under, begun_at, made_in, arith}
+use Rattle.schedule.proofs.Words.{◌≡◌, ◌≢◌, ⊎_elim, ℕ, zero, suc, List, [], ◌∷◌, ◌++◌, Option, Some, None, sym, ◌∙◌, subst, refl, Contains, IsSome, slice_get, ⊤, cases_eq, false≢true, Contains-append_cases, Contains-append_left, Contains-append_right, flat_map-append, Gains, listed_cases, none_listed, CommitRun, Script, AttachRun, attach_commit, Core, HoldingCall, actor_of, IsBeforeCommit, Client, UnderWay, Work, Changes, AreGoing, IsGoing, IsHoldOf, IsTheirs, MakesCommit, call_of_client, calls_under_way, commit_in, held_by, held_under, begun_at, made_in, arith}
 use Rattle.schedule.specs.declared.client.Work.TheVariants as work
 
 pub some_is : {A : Type 0} {one two : A} → Some one ≡ Some two → one ≡ two
@@ -61,10 +61,10 @@ whose (first ∷ clients) {call = call} listed = ⊎_elim (mine first.under_way 
 pub is_among : (clients : List Client) (index : ℕ) {client : Client} {under : UnderWay} (call : HoldingCall)
     → IsGoing clients index client under → Contains (held_by under.work) call → Contains (calls_under_way clients) call
 is_among [] index call going held = cc
-is_among (first ∷ clients) zero call going held =
+is_among (first ∷ clients) zero {client} {under} call going held =
     Contains-append_left (call_of_client first) (calls_under_way clients) call
-    (rw (ap (λ (c : Client). c.under_way) (some_is going.there) ∙ going.under_way) held)
-is_among (first ∷ clients) (suc index) {client = client} {under = under} call going held =
+    (rw (let its : first.under_way ≡ Some under = cc in its) held)
+is_among (first ∷ clients) (suc index) {client} {under} call going held =
     Contains-append_right (call_of_client first) (calls_under_way clients) call
     (is_among clients index call (record { there = going.there; under_way = going.under_way }) held)
 
@@ -81,9 +81,9 @@ pub held_by_others : {script : Script} {core : Core} {clients : List Client} {in
     → (call : HoldingCall) → Contains (calls_under_way clients) call → actor_of call ≢ index
 held_by_others {clients = clients} {client = client} was none going call listed its =
     let found = whose clients listed in
-    let here : actor_of call ≡ found.index = its_actor found.under.work call
-    (going.each found.index found.client found.under found.going).hold found.held in
-    none_listed call (rw (let same : held_by found.under.work ≡ [] = cc in same) at found.held)
+    let here = its_actor found.under.work call (going.each found.index found.client found.under found.going).hold
+    found.held in
+    let empty : held_by found.under.work ≡ [] = cc in none_listed call (rw empty at found.held)
 
 -- as where it has none under way.
 pub calls_of_others : {script : Script} {core : Core} {clients : List Client} {index : ℕ} {client : Client}
@@ -134,47 +134,6 @@ one_changes {index = suc index} (first ∷ clients) (next ∷ news) was changes 
       was = cc;
       is = cc (some_is (changes.others 0 (λ is. cc)));
     }
-
-module _ {clients news : List Client} {index : ℕ} {old client : Client} (was : slice_get clients index ≡ Some old)
-    (changes : Changes clients news index client) where
-  change : OneChanges clients news old client
-  change = one_changes clients news was changes
-
-  -- The calls before the client's and behind it are the same,
-  abbrev before : List HoldingCall
-  before = calls_under_way change.before
-
-  abbrev after : List HoldingCall
-  after = calls_under_way change.after
-
-  were : {held : List HoldingCall} → call_of_client old ≡ held → calls_under_way clients ≡ before ++ (held ++ after)
-  were is = search (flat_map-append, arith)
-
-  are : (held : List HoldingCall) → call_of_client client ≡ held → calls_under_way news ≡ before ++ (held ++ after)
-  are held is = search (flat_map-append, arith)
-
-  -- and its call begins,
-  pub call_begins : {call : HoldingCall} → call_of_client old ≡ [] → call_of_client client ≡ call ∷ []
-      → Gains (calls_under_way clients) (calls_under_way news) call
-  call_begins {call} none held = record { before = before; after = after; was = were none; is = are (call ∷ []) held }
-
-  -- goes on,
-  pub call_goes : {call next : HoldingCall} → call_of_client old ≡ call ∷ [] → call_of_client client ≡ next ∷ []
-      → (left : List HoldingCall) × Gains left (calls_under_way clients) call × Gains left (calls_under_way news) next
-  call_goes {call} {next} was_held held = (
-    before ++ after,
-    record { before = before; after = after; was = refl; is = were was_held },
-    record { before = before; after = after; was = refl; is = are (next ∷ []) held },
-  )
-
-  -- or ends.
-  pub call_ends : {call : HoldingCall} → call_of_client old ≡ call ∷ [] → call_of_client client ≡ []
-      → Gains (calls_under_way news) (calls_under_way clients) call
-  call_ends {call} held none = record { before = before; after = after; was = are [] none; is = were held }
-
-  -- Where it holds no sectors before and after, the calls are the same.
-  pub calls_stay : call_of_client old ≡ [] → call_of_client client ≡ [] → calls_under_way news ≡ calls_under_way clients
-  calls_stay was_none none = cc (are [] none, were was_none)
 
 -- What holds of the call that a client has under way holds of each that it has,
 pub the_one : (T : UnderWay → Type 0) {its : Option UnderWay} {under : UnderWay} → its ≡ Some under → T under
@@ -234,16 +193,51 @@ held_none_made does holds = grind arith
 pub same_attach : {one other : AttachRun} → work.Attach one ≡ work.Attach other → one ≡ other
 same_attach same = cc
 
--- A sync is none.
-pub sync_no_attach : {sync : CommitRun} {run : AttachRun} → work.Sync sync ≡ work.Attach run → ⊥
-sync_no_attach same = cc
-
 -- An attach that makes no commit has begun none.
 pub before_commit : (run : AttachRun) → (IsSome (attach_commit run) → ⊥) → IsBeforeCommit run
 before_commit run none = grind (arith, none)
 
 module _ {clients news : List Client} {index : ℕ} {old client : Client} (was : slice_get clients index ≡ Some old)
     (changes : Changes clients news index client) where
+  change : OneChanges clients news old client
+  change = one_changes clients news was changes
+
+  -- The calls before the client's and behind it are the same,
+  abbrev before : List HoldingCall
+  before = calls_under_way change.before
+
+  abbrev after : List HoldingCall
+  after = calls_under_way change.after
+
+  were : {held : List HoldingCall} → call_of_client old ≡ held → calls_under_way clients ≡ before ++ (held ++ after)
+  were is = search (flat_map-append, arith)
+
+  are : (held : List HoldingCall) → call_of_client client ≡ held → calls_under_way news ≡ before ++ (held ++ after)
+  are held is = search (flat_map-append, arith)
+
+  -- and its call begins,
+  pub call_begins : {call : HoldingCall} → call_of_client old ≡ [] → call_of_client client ≡ call ∷ []
+      → Gains (calls_under_way clients) (calls_under_way news) call
+  call_begins {call} none held = record { before = before; after = after; was = were none; is = are (call ∷ []) held }
+
+  -- goes on,
+  pub call_goes : {call next : HoldingCall} → call_of_client old ≡ call ∷ [] → call_of_client client ≡ next ∷ []
+      → (left : List HoldingCall) × Gains left (calls_under_way clients) call × Gains left (calls_under_way news) next
+  call_goes {call} {next} was_held held = (
+    before ++ after,
+    record { before = before; after = after; was = refl; is = were was_held },
+    record { before = before; after = after; was = refl; is = are (next ∷ []) held },
+  )
+
+  -- or ends.
+  pub call_ends : {call : HoldingCall} → call_of_client old ≡ call ∷ [] → call_of_client client ≡ []
+      → Gains (calls_under_way news) (calls_under_way clients) call
+  call_ends {call} held none = search (were, are, arith)
+
+  -- Where it holds no sectors before and after, the calls are the same.
+  pub calls_stay : call_of_client old ≡ [] → call_of_client client ≡ [] → calls_under_way news ≡ calls_under_way clients
+  calls_stay was_none none = cc (are [] none, were was_none)
+
   -- Other clients go on with their calls.
   pub going_on : {other : ℕ} {its : Client} {under : UnderWay} → other ≢ index → IsGoing clients other its under
       → IsGoing news other its under
@@ -255,14 +249,7 @@ module _ {clients news : List Client} {index : ℕ} {old client : Client} (was :
       → ((other : ℕ) (its : Client) (under : UnderWay) → other ≢ index → IsGoing clients other its under
       → T other its under)
       → (other : ℕ) (its : Client) (under : UnderWay) → IsGoing news other its under → T other its under
-  each_going {T} here others other its under is = ⊎_elim
-      (λ (same : other ≡ index).
-      let client_is : client ≡ its = some_is (cc) in
-      subst (λ (n : ℕ). T n its under) (sym same) (subst (λ (c : Client). T index c under) client_is (here under (cc))))
-      (λ (apart : other ≢ index). others other its under apart (record {
-        there = sym (changes.others other apart) ∙ is.there;
-        under_way = is.under_way;
-      })) (cases_eq other index)
+  each_going {T} here others other its under is = grind (arith, here, others, cases_eq)
 
   -- This one's commit isn't under way.
   pub apart_of_commit : IsNoCommit old.under_way → {other : ℕ} {its : Client} {under : UnderWay}

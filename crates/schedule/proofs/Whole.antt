@@ -1,9 +1,8 @@
 -- A run of turns from the opening of its pool to its end.
-use Rattle.schedule.proofs.Words.{◌≡◌, inl, ⊎_elim, ℕ, ◌≤◌, List, [], ◌∷◌, ◌++◌, Bool, false, refl, sym, ap, arith, length, ◌+◌, Contains, Image, Disk, Later, TouchesOnly, touches_then, NoneAbove, has_device, count_of, IsWithin, Uber, IsRightUber, Entry, Item, Group, CallsAreRight, Kept, Setting, World, present, contains_head, AreUnderWay, OnlyFailedGoOut, point_of, IsOnInUse, IsOutFor, AreOutIn, AreOutOf, HaveFailed, HoldsImage, shape_of, IsWithinBelow, RenewsChoice, WritesInOrder, present_held, IsOnBelow, AreLoaded, MayBegin, OpensPool, IsBegunWith, Pool, Script, asked_by, handed_by, WhyDropped, KeepsLast, NoSpaceIsCaused, BeginsAfter, first_item, no_space_alike, opened_parity, CoreState, at_disk, Client, Ended, Whole, NoMemory, Limit, FullIsCaused, LeadTo, HasDropCause, IsDropCause, IsToBeTold, FitsCall, FitsSince, turns_of, TurnTaken, Turns, bank_when, Cursor, InOrder, HaveTaken, Replay, replay_at, Past, EndsAs, blank_clients, Runs, Ran, HasRun, HasRunInTurn, HasTakenTurns, RunKeeps, first_turns}
+use Rattle.schedule.proofs.Words.{◌≡◌, inl, ⊎_elim, ℕ, ◌≤◌, List, [], ◌∷◌, ◌++◌, Bool, false, refl, sym, ap, arith, length, ◌+◌, Contains, Image, Disk, Later, TouchesOnly, touches_then, NoneAbove, has_device, count_of, IsWithin, Uber, IsRightUber, Entry, Item, Group, CallsAreRight, Kept, Setting, World, present, contains_head, AreUnderWay, OnlyFailedGoOut, point_of, IsOnInUse, IsOutFor, AreOutIn, AreOutOf, HaveFailed, HoldsImage, shape_of, IsWithinBelow, RenewsChoice, WritesInOrder, present_held, IsOnBelow, AreLoaded, MayBegin, OpensPool, IsBegunWith, Pool, Script, asked_by, handed_by, WhyDropped, KeepsLast, NoSpaceIsCaused, BeginsAfter, first_item, no_space_alike, opened_parity, CoreState, at_disk, Client, Ended, Whole, NoMemory, Limit, FullIsCaused, LeadTo, HasDropCause, IsDropCause, FitsCall, FitsSince, turns_of, TurnTaken, Turns, bank_when, Cursor, InOrder, HaveTaken, Replay, replay_at, Past, EndsAs, blank_clients, Runs, Ran, HasRun, HasRunInTurn, HasTakenTurns, RunKeeps, first_turns}
 use Rattle.std.proofs.Common.{true}
 use Rattle.core_state.specs.declared.item.Group.{Group as GroupItem}
 use Rattle.core_open.specs.Opens.{HasBank}
-use Rattle.join_commit.specs.declared.join_run.WhyDropped.TheVariants as why
 use Rattle.schedule.proofs.Banks.{are_listed, at_end as bank_at_end, at_start}
 use Rattle.schedule.proofs.Beginning.{no_call}
 use Rattle.schedule.proofs.InTurn.{gone_counted, gone_taken}
@@ -94,7 +93,7 @@ module _ {script : Script} {old mid : Disk} {pool : Pool} {silent : ℕ} {items 
 
     -- The journal begins with the group that renews the chosen one.
     begins_after : BeginsAfter begins.opened.chosen items
-    begins_after = let alike = begins.opened.alike in let renews = begins.opened.renews.alike in record {
+    begins_after = record {
       first = item;
       there = come.listed 0 (Group item) refl;
       number = search arith;
@@ -146,16 +145,12 @@ module _ {script : Script} {old mid : Disk} {pool : Pool} {silent : ℕ} {items 
     device = rw opened_later.devices at (device_cause_on mid.devices
         (HasDropCause first_state (turns_of final items clients))
         (IsDropCause old final.disk final.core.pool.out) entry.answer
-        (λ cause. ⊎_elim (by cause) (λ told. absurd (none told))) fit.device);
+        (λ cause. ⊎_elim (by cause) (λ told. absurd (none_of_blank script.clients told.going))) fit.device);
   }
     where
       by : (cause : WhyDropped) → IsDropCause mid final.disk final.core.pool.out cause
           → IsDropCause old final.disk final.core.pool.out cause
-      by (why.NewDeviceFailed device) rose = search arith
-      by (why.DeviceOut device) out = out
-
-      none : {cause : WhyDropped} → IsToBeTold (blank_clients script.clients) cause → ⊥
-      none told = none_of_blank script.clients told.going
+      by cause drop = grind arith
 
   -- The calls of the script were carried out on the pool that the devices showed,
   pub has_run : HasRun script old final.disk items final.core.pool.out
