@@ -1,5 +1,5 @@
 -- The calls of a script that a journal answers, as clients go on.
-use Rattle.schedule.proofs.Words.{◌≡◌, ◌≢◌, ◌⊎◌, inl, inr, ⊎_elim, ℕ, ◌+◌, ◌-◌, ◌<◌, ◌≤◌, List, [], ◌∷◌, ◌++◌, length, Some, None, sym, ◌∙◌, arith, slice_get, cases_eq, cases_lt, slice_get-map, Entry, Item, Group, Call, CallAt, IsAsked, ScriptCall, Script, calls_of, asked_by, grown_has, last_there, new_or_before, Client, UnderWay, ClientsAreAnswered, Changes, answered_of}
+use Rattle.schedule.proofs.Words.{◌≡◌, ◌≢◌, inl, inr, ⊎_elim, ℕ, ◌+◌, ◌-◌, ◌<◌, ◌≤◌, List, [], ◌∷◌, ◌++◌, length, Some, None, arith, slice_get, cases_eq, cases_lt, slice_get-map, Entry, Item, Group, Call, CallAt, IsAsked, ScriptCall, Script, calls_of, asked_by, grown_has, last_there, new_or_before, Client, UnderWay, ClientsAreAnswered, Changes, answered_of}
 use Rattle.core_state.specs.declared.item.Group.{Group as GroupItem}
 use Rattle.schedule.proofs.Theirs.{some_is}
 
@@ -44,11 +44,11 @@ module _ {script : Script} {old new : List Client} {index : ℕ} {before client 
     (some : (under : UnderWay) → client.under_way ≡ Some under → 1 ≤ client.begun)
     (are : ClientsAreAnswered script old items) where
   few_now : (caller : ℕ) (its : Client) → slice_get new caller ≡ Some its → its.begun ≤ length (calls_of script caller)
-  few_now caller its is = search (some_is, cases_eq, arith)
+  few_now caller its is = grind (arith, cases_eq)
 
   some_now : (caller : ℕ) (its : Client) (under : UnderWay) → slice_get new caller ≡ Some its
       → its.under_way ≡ Some under → 1 ≤ its.begun
-  some_now caller its under is going = search (some_is, cases_eq, arith)
+  some_now caller its under is going = grind (arith, cases_eq)
 
   -- A client goes on, or begins a call, and the journal answers no more.
   pub answers_same : answered client ≡ answered before → ClientsAreAnswered script new items
@@ -58,11 +58,8 @@ module _ {script : Script} {old new : List Client} {index : ℕ} {before client 
     some = some_now;
     each = search (some_is, cases_eq, arith);
     every = λ caller number its is below. ⊎_elim
-        (λ (same : caller ≡ index).
-        let mine : client ≡ its = some_is (cc) in
-        let low : number < answered client = rw mine below in
-        are.every caller number before (search) (omega (arith, low, same_count)))
-        (λ (apart : caller ≢ index). are.every caller number its (sym (changes.others caller apart) ∙ is) below)
+        (λ (same : caller ≡ index). are.every caller number before (cc) (grind arith))
+        (λ (apart : caller ≢ index). are.every caller number its (search (changes.others, arith)) below)
         (cases_eq caller index);
   }
 
@@ -75,31 +72,27 @@ module _ {script : Script} {old new : List Client} {index : ℕ} {before client 
     is_asked : IsAsked (asked_by script) entry
     is_asked = search (slice_get-map, arith)
 
-    -- An entry of the grown journal is this one, or was there before.
-    abbrev OfGrown : ℕ → Entry → Type 0
-    OfGrown place other = ((place ≡ length items) × (entry ≡ other)) ⊎
-        ((place < length items) × CallAt items place other)
-
-    of_grown : {place : ℕ} {other : Entry} → CallAt (items ++ Call entry ∷ []) place other → OfGrown place other
-    of_grown {place = place} {other = other} there = search (new_or_before, arith)
-
-    each_asked : (place : ℕ) (other : Entry) → OfGrown place other → IsAsked (asked_by script) other
-    each_asked place other (inl new) = rw new.1 at is_asked
-    each_asked place other (inr old) = are.right.each place other old.1
+    -- So does it for each entry of the grown journal, which is this one, or was there before.
+    each_asked : (place : ℕ) (other : Entry) → CallAt (items ++ Call entry ∷ []) place other
+        → IsAsked (asked_by script) other
+    each_asked place other there = elim (new_or_before items (Call entry) place (Call other) there) [
+      | inl new ↦ rw (let same : entry ≡ other = cc in same) at is_asked
+      | inr old ↦ are.right.each place other old.1
+    ]
 
     -- The client's entries so far answer calls before this one.
     below : (place : ℕ) (other : Entry) → CallAt items place other → other.caller ≡ index → other.call ≤ answered before
     below place other there same = search (some_is, arith)
 
     -- The entries of a caller go up.
-    in_order : (place later : ℕ) (one other : Entry) → place < later → OfGrown place one → OfGrown later other
-        → one.caller ≡ other.caller → one.call < other.call
-    in_order place later one other earlier first second callers = grind (arith, below)
+    in_order : (place later : ℕ) (one other : Entry) → place < later → CallAt (items ++ Call entry ∷ []) place one
+        → CallAt (items ++ Call entry ∷ []) later other → one.caller ≡ other.caller → one.call < other.call
+    in_order place later one other earlier first second callers = grind (arith, new_or_before, below)
 
     -- No entry answers a later call.
-    each_counted : (place : ℕ) (other : Entry) → OfGrown place other
+    each_counted : (place : ℕ) (other : Entry) → CallAt (items ++ Call entry ∷ []) place other
         → (its : Client) × (slice_get new other.caller ≡ Some its) × (other.call ≤ answered its)
-    each_counted place other of = grind (arith, below, cases_eq)
+    each_counted place other there = grind (arith, new_or_before, below, cases_eq)
 
     -- the call of this number of a caller is answered
     abbrev Answers : List Item → ℕ → ℕ → Type 0
@@ -114,31 +107,20 @@ module _ {script : Script} {old new : List Client} {index : ℕ} {before client 
     every_answered : (caller number : ℕ) (its : Client) → slice_get new caller ≡ Some its → number < answered its
         → Answers (items ++ Call entry ∷ []) caller number
     every_answered caller number its is low = ⊎_elim
-        (λ (same : caller ≡ index).
-        let mine : client ≡ its = some_is (cc) in
-        let few_more : number < answered client = rw mine low in
-        ⊎_elim
-        (λ (less : number < answered before). answers_more number (are.every caller number before (search) less))
-        (λ (not_less : answered before ≤ number). (
-          length items,
-          entry,
-          last_there items (Call entry),
-          cc,
-          omega arith,
-        )) (cases_lt number (answered before)))
+        (λ (same : caller ≡ index). ⊎_elim
+        (λ (less : number < answered before). answers_more number (are.every caller number before (cc) less))
+        (λ (not_less : answered before ≤ number).
+        (length items, entry, last_there items (Call entry), cc, grind arith)) (cases_lt number (answered before)))
         (λ (apart : caller ≢ index).
-        answers_more number (are.every caller number its (sym (changes.others caller apart) ∙ is) low))
+        answers_more number (are.every caller number its (search (changes.others, arith)) low))
         (cases_eq caller index)
 
     -- With that entry the journal answers one call more.
     pub answers_call : ClientsAreAnswered script new (items ++ Call entry ∷ [])
     answers_call = record {
-      right = record {
-        each = λ place other there. each_asked place other (of_grown there);
-        order = λ place later one other earlier first second. search (in_order, earlier, of_grown);
-      };
+      right = record { each = each_asked; order = in_order };
       few = few_now;
       some = some_now;
-      each = search (each_counted, of_grown, arith);
+      each = each_counted;
       every = every_answered;
     }

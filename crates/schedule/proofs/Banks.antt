@@ -42,8 +42,8 @@ pub are_listed : (script : Script) (start : Turns) (passed : List TurnTaken) →
 are_listed script start [] taken = tt
 are_listed script start (turn ∷ later) taken = (
   search (past_start, at_start),
-  agree script turn.left later taken.1
-      (search (past_start, turn_grows, arith)) (are_listed script turn.left later taken.1),
+  agree script turn.left later taken.1 (search (past_start, turn_grows, arith))
+      (are_listed script turn.left later taken.1),
 )
 
 -- and the bank of one item more than there are at the end is the end's.

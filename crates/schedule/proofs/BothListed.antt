@@ -53,8 +53,7 @@ module _ (items : List Item) (group : GroupItem) (entry : Entry) where
     newest : {index : ℕ} (before next : GroupItem) → index ≡ length items → group ≡ next
         → IsGroupBefore with_both index before → Follows with_both index before next
     newest before next at same is =
-        let here : IsGroupBefore with_both (length items) before = rw at at is in
-        let first : IsGroupBefore items (length items) before = search (group_before_first, length-append, arith) in
+        let first : IsGroupBefore items (length items) before = search (group_before_first, length-append, at, arith) in
         search (same, one_latest, first, arith)
 
     -- The groups are right, also where the answer tells that a device was attached with the new one.
@@ -77,11 +76,8 @@ module _ (items : List Item) (group : GroupItem) (entry : Entry) where
       → ((index : ℕ) (other : GroupItem) → GroupAt items index other → other.after ≤ index) → group.after ≤ length items
       → (groups : Groups calls handed opening known with_group) → groups.begun ≡ []
       → (grown : Groups calls handed opening known with_both) × (grown.answered ≡ groups.answered) × (grown.begun ≡ [])
-  groups_both {handed = handed} {opening = opening} within after groups none = (
-    search (groups_with_call, each_later, each_within, contains_none, arith),
-    refl,
-    refl,
-  )
+  groups_both {handed = handed} {opening = opening} within after groups none =
+      (search (groups_with_call, each_later, each_within, contains_none, arith), refl, refl)
     where
       each_within : (index : ℕ) (other : GroupItem) → GroupAt with_group index other → other.after ≤ length with_group
       each_within index other there = search (new_or_before, same_group, length-append, after, arith)

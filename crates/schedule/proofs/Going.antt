@@ -1,5 +1,5 @@
 -- The clients' calls under way are calls of the core still, after a client's next turn.
-use Rattle.schedule.proofs.Words.{◌≡◌, ◌≢◌, ◌⊎◌, inl, inr, ℕ, ◌-◌, List, Some, None, sym, ◌∙◌, slice_get, CommitRun, ScriptCall, Script, calls_of, AttachRun, IsAttachRunOf, Core, HasTooManyOut, IsCommitOf, AreCallsOf, IsBeforeCommit, attach_at_begin, Client, UnderWay, Changes, AreGoing, IsGoing, IsHoldOf, IsWorkFor, IsWorkOf, calls_under_way, commit_in, arith}
+use Rattle.schedule.proofs.Words.{◌≡◌, ◌≢◌, ◌⊎◌, inl, inr, ℕ, ◌-◌, List, Some, None, slice_get, CommitRun, ScriptCall, Script, calls_of, AttachRun, IsAttachRunOf, Core, HasTooManyOut, IsCommitOf, AreCallsOf, IsBeforeCommit, attach_at_begin, Client, UnderWay, Changes, AreGoing, IsGoing, IsHoldOf, IsWorkFor, IsWorkOf, calls_under_way, commit_in, arith}
 use Rattle.schedule.specs.declared.client.Work.TheVariants as work
 use Rattle.schedule.proofs.LeavesPool.{KeepsCommit}
 use Rattle.schedule.proofs.Theirs.{IsNoAttach, IsNoCommit, OnlyIt, apart_of_commit, before_commit, each_going, going_on, makes_commit, no_one, run_of, some_is, the_one}
@@ -12,10 +12,7 @@ pub record KeepsAttach (core now : Core) : Type 0 where
 -- So it is where the pool's widths, how far it reaches and who attaches are the same.
 pub keeps_attach : {core now : Core} → now.pool.uber.reflow ≡ core.pool.uber.reflow → now.reach ≡ core.reach
     → now.attaching ≡ core.attaching → KeepsAttach core now
-keeps_attach {core = core} {now = now} reflow reach attaching = record {
-  attaching = attaching;
-  early = search (attach_at_begin, attaching);
-}
+keeps_attach {core = core} {now = now} reflow reach attaching = search (attach_at_begin, attaching)
 
 module _ {script : Script} {core now : Core} {clients news : List Client} {index : ℕ} {old client : Client}
     (was : slice_get clients index ≡ Some old) (changes : Changes clients news index client)
@@ -121,8 +118,8 @@ module _ {script : Script} {core now : Core} {clients news : List Client} {index
       → IsNoCommit old.under_way → client.under_way ≡ None → AreGoing script now news
   attach_stops attaching stopped committing commits many none ended = all_go (others_commit committing commits)
       (λ caller its under run apart is does.
-      absurd (apart (some_is (sym ((going.each caller its under is).attach run does).1 ∙ attaching))))
-      (search no_one) (one_commits committing many none) (λ actor is. cc)
+      let was = (going.each caller its under is).attach run does in absurd (apart (some_is (cc))))
+      (search no_one) (one_commits committing many none) (search arith)
 
   -- ---- turns that begin, make or end the commit
 

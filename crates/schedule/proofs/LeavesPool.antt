@@ -1,5 +1,5 @@
 -- Turns that call no device, and leave all of the core but blocks and holds.
-use Rattle.schedule.proofs.Words.{◌≡◌, ℕ, List, refl, sym, ap, subst, arith, Disk, Hold, Gains, IsWithin, Blocks, CommitRun, AttachRun, CopyRun, IsAttachRunOf, Core, IsCore, at_disk, HasTooManyOut, IsCommitOf, BeginsJobSo, DropsJob, EndsJob, IsJobOf, AreCallsOf, Copying, HoldingCall, TurnGoesOn, count_grows, attach_kept, attach_still, turn_still, OnlyOut, LeavesCommit, commit_still, out_leaves, KeepsAlone, keeps_same, job_ends_commit, job_begins_alone, job_drops_alone, Option}
+use Rattle.schedule.proofs.Words.{◌≡◌, ℕ, List, ap, arith, Disk, Hold, Gains, IsWithin, Blocks, CommitRun, AttachRun, CopyRun, IsAttachRunOf, Core, IsCore, at_disk, HasTooManyOut, IsCommitOf, BeginsJobSo, DropsJob, EndsJob, IsJobOf, AreCallsOf, Copying, HoldingCall, TurnGoesOn, count_grows, attach_kept, attach_still, turn_still, OnlyOut, LeavesCommit, commit_still, out_leaves, KeepsAlone, keeps_same, job_ends_commit, job_begins_alone, job_drops_alone, Option}
 
 -- A turn leaves the devices that are out, the uberblock, and the commit and the attach that are under way.
 pub record LeavesPool (old new : Core) : Type 0 where
@@ -55,21 +55,20 @@ out_keeps {old} {new} rest within = keeps_left (out_leaves old new rest within) 
 pub pool_goes : {old new : Core} {blocks : Blocks} {holds : List Hold} {disk : Disk}
     → new ≡ record old { pool = record old.pool { blocks = blocks }; holds = holds }
     → TurnGoesOn (at_disk old disk) (at_disk new disk)
-pool_goes {old = old} {new = new} {disk = disk} core = turn_still (at_disk old disk) (at_disk new disk)
-    (ap (λ (c : Core). c.pool.uber) core) (cc) (ap (λ (c : Core). c.pool.out) core) refl
+pool_goes {old = old} {new = new} {disk = disk} core = search (turn_still, core, arith)
 
 -- They are kept where a job ends: the front goes on, and what a commit holds is below it.
 pub job_ended_keeps : (old new : Core) {run : CopyRun} {left calls : List HoldingCall} → IsCore old
     → EndsJob old new run → Gains left calls (Copying run) → AreCallsOf old calls → KeepsCommit old new
-job_ended_keeps old new is ends gains are = record {
-  committing = cc;
-  attaching = cc;
-  commits = job_ends_commit is ends gains are;
-  attaches = λ attach. attach_kept old new attach (ap (λ (c : Core). c.pool.uber) ends.rest)
-      (cc) (ap (λ (c : Core). c.committing) ends.rest)
-      (ap (λ (c : Core). c.attaching) ends.rest) (job_ends_commit is ends gains are);
-  many = λ many. subst HasTooManyOut (sym ends.rest) many;
-}
+job_ended_keeps old new is ends gains are =
+    let uber = ap (λ (c : Core). c.pool.uber) ends.rest in
+    let commits = job_ends_commit is ends gains are in record {
+      committing = cc;
+      attaching = cc;
+      commits = commits;
+      attaches = λ attach. attach_kept old new attach uber (cc) (cc) (cc) commits;
+      many = rw ends.rest (λ many. many);
+    }
 
 -- They are kept where nothing changed.
 pub same_keeps : (old : Core) {now : Core} → now ≡ old → KeepsCommit old now

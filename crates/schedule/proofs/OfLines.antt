@@ -1,5 +1,5 @@
 -- The journal of an only client follows the lines of the script, whoever's turns they were.
-use Rattle.schedule.proofs.Words.{◌≡◌, ◌⊎◌, inl, inr, ℕ, zero, suc, ◌+◌, ◌-◌, ◌<◌, ◌≤◌, List, [], ◌∷◌, ◌++◌, length, Option, Some, None, refl, sym, ◌∙◌, ap, subst, arith, slice_get, filter, map, not, replicate, take, All, ◌==◌, ⊤, append-nil, length-map, length-replicate, replicate_more, length-filter_both, slice_get_within, Answer, Kind, Entry, Item, Group, Call, CallAt, GroupAt, IsAnswerOf, ScriptCall, Placed, Script, calls_of, Rests, Copies, Turn, More, Busy, Done, Core, CoreState, point_after, new_or_before, Client, UnderWay, Work, answered_of, HaveTaken, IsTurnOf, FollowsLines, callers_in, Station, Turned, BeginsCall, BeginsWork, GoesOnBy, LeavesBegun, LeavesGoing, entry_for, group_by, group_for, listed_for, listed_of, listed_on, begun_at, made_by, made_in, Turns, TurnTaken, last_left, first_turns, ⊎_elim, get_or, blank_client, slice_get-get_or, cases_lt}
+use Rattle.schedule.proofs.Words.{◌≡◌, ◌⊎◌, inl, inr, ℕ, zero, suc, ◌+◌, ◌-◌, ◌<◌, ◌≤◌, List, [], ◌∷◌, ◌++◌, length, Option, Some, None, refl, sym, ◌∙◌, ap, subst, arith, slice_get, filter, map, not, replicate, take, All, ◌==◌, ⊤, append-nil, length-map, length-replicate, replicate_more, length-filter_both, slice_get_within, Answer, Kind, Entry, Item, Group, Call, CallAt, GroupAt, IsAnswerOf, ScriptCall, Placed, Script, calls_of, Rests, Copies, Turn, More, Busy, Done, Core, CoreState, point_after, new_or_before, Client, UnderWay, Work, answered_of, HaveTaken, IsTurnOf, FollowsLines, callers_in, Station, Turned, BeginsCall, BeginsWork, GoesOnBy, LeavesBegun, LeavesGoing, entry_for, group_by, group_for, listed_for, listed_of, listed_on, begun_at, made_by, made_in, Turns, TurnTaken, last_left, first_turns, ⊎_elim, get_or, blank_client, slice_get-get_or, cases_lt, Bool}
 use Rattle.std.proofs.lemmas.Option.{slice_get_past}
 use Rattle.core_state.specs.declared.answer.Kind.TheVariants as kind
 use Rattle.core_state.specs.declared.item.Group.{Group as GroupItem}
@@ -44,13 +44,10 @@ module _ {items : List Item} {answered : ℕ} (follows : Follows items answered)
   follows_call entry caller at = record {
     callers = search (callers_more, entry, answered, replicate_more, arith);
     reads = λ index other is. elim (new_or_before items (Call entry) index (Call other) is) [
-      | inl last ↦ search (call_is, arith)
+      | inl last ↦ search arith
       | inr before ↦ follows.reads index other before.1
     ];
-    groups = λ index group is. elim (new_or_before items (Call entry) index (Group group) is) [
-      | inl last ↦ cc
-      | inr before ↦ follows.groups index group before.1
-    ];
+    groups = search (new_or_before, arith);
   }
 
 -- ---- what stands between two turns
@@ -134,12 +131,7 @@ module _ {script : Script} (before after : Station) (goes : GoesAlone script bef
       → begun - 1 ≡ answered → 1 ≤ begun → begun ≤ length (calls_of script 0)
       → AtEndOf under.work under.at (length items) → slice_get (calls_of script 0) (begun - 1) ≡ Some call
       → IsCopyFor call.kind under.work → Now items (record { begun = begun; under_way = Some under })
-  goes_on_from {begun = begun} {under = under} {call} {items} follows counted some few began is of = record {
-    follows = rw counted follows;
-    few = few;
-    under = search arith;
-    asked = search arith;
-  }
+  goes_on_from {begun = begun} {under = under} {call} {items} follows counted some few began is of = grind arith
 
   -- or is answered.
   ends_as : {begun : ℕ} (items : List Item) → Follows items (answered + 1) → begun ≡ answered + 1
@@ -283,13 +275,13 @@ firsts one (first ∷ calls) (suc count) actors few =
     cc (firsts one calls count (λ place other low. actors (suc place) other (omega arith)) (omega (arith, few)))
 
 its_calls : (script : Script) → length (calls_of script 0) ≤ length script.calls
-its_calls script = omega (
-  arith,
-  length-filter_both (λ (placed : Placed). placed.actor == 0)
-      (λ placed. not (placed.actor == 0)) (λ placed. refl) script.calls,
-  length-map
-      (filter (λ (placed : Placed). placed.actor == 0) script.calls) (λ (placed : Placed). placed.call),
-)
+its_calls script =
+    let its : Placed → Bool = λ placed. placed.actor == 0 in
+    omega (
+      arith,
+      length-filter_both its (λ placed. not (its placed)) (λ placed. refl) script.calls,
+      length-map (filter its script.calls) (λ (placed : Placed). placed.call),
+    )
 
 -- A run begins with the opening's group,
 begins_alone : (script : Script) {start : CoreState} (opened : GroupItem) → script.clients ≤ 1 → opened.after ≡ 0

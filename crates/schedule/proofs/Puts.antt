@@ -12,7 +12,7 @@ use Rattle.schedule.proofs.LeavesPool.{LeavesPool, holds_left, leaves_pool}
 -- Where only blocks and holds are others, all else of the core is left.
 pub rearranged_leaves : (old new : Core) → Rearranges old new → KeepsAlone old.pool.done old.holds new.holds
     → LeavesPool old new
-rearranged_leaves old new change = search leaves_pool
+rearranged_leaves old new change alone = search leaves_pool
 
 -- So it is where the holds are left too.
 pub refused_leaves : (old new : Core) → LeavesBlocks old new → LeavesPool old new

@@ -1,5 +1,5 @@
 -- A journal goes on to tell what it did, turn by turn: the devices go on, a commit begins or ends, a call is answered.
-use Rattle.schedule.proofs.Words.{◌≡◌, ℕ, ◌≤◌, List, [], ◌∷◌, ◌++◌, length, refl, sym, ◌∙◌, arith, append_assoc, length-append, ◌+◌, append-nil, Contains, ⊤, Disk, Later, Entry, Item, Group, Call, Map, PutBytes, IsGroupBefore, IsAnswerOf, Calls, Follows, IsAttachOf, Kept, Setting, Knows, AwaitsAttach, IsGroupOf, IsBegunAfter, Groups, IsRowOf, KeepsSince, KeepsThroughout, World, knows_keep, contains_head, contains_none, contains_tail, Stage, Lays, since_longer, shown_in, KeepsLast, HaveParityOf, parity_with, map_before, answers_grown_call, answers_grown_group, groups_grown_call, latest_grown_call, latest_grown_group, group_of_grown, after_listed, width_step_where, groups_grown_group, groups_call, groups_end, groups_begun, groups_cut, contains_one, row_among, each_grown_call, each_grown_group, HasBegun, Recorded, IsRightNext, IsBegunAt, KeepsTurnByTurn, Past, CallAt, GroupsAreRight, AnswersAreCaused, KeptSoFar, later_refl}
+use Rattle.schedule.proofs.Words.{◌≡◌, ℕ, ◌≤◌, List, [], ◌∷◌, ◌++◌, length, refl, ◌∙◌, arith, append_assoc, length-append, ◌+◌, append-nil, Contains, ⊤, Disk, Later, Entry, Item, Group, Call, Map, PutBytes, IsGroupBefore, IsAnswerOf, Calls, Follows, IsAttachOf, Kept, Setting, Knows, AwaitsAttach, IsGroupOf, IsBegunAfter, Groups, IsRowOf, KeepsSince, KeepsThroughout, World, knows_keep, contains_head, contains_none, contains_tail, Stage, Lays, since_longer, shown_in, KeepsLast, HaveParityOf, parity_with, map_before, answers_grown_call, answers_grown_group, groups_grown_call, latest_grown_call, latest_grown_group, group_of_grown, after_listed, width_step_where, groups_grown_group, groups_call, groups_end, groups_begun, groups_cut, contains_one, row_among, each_grown_call, each_grown_group, HasBegun, Recorded, IsRightNext, IsBegunAt, KeepsTurnByTurn, Past, CallAt, GroupsAreRight, AnswersAreCaused, KeptSoFar, later_refl}
 use Rattle.std.specs.Prelude.{◌≢◌}
 use Rattle.core_state.specs.declared.answer.Answer.TheVariants as answer
 use Rattle.core_state.specs.declared.item.Group.{Group as GroupItem}
@@ -110,10 +110,9 @@ module _ {world : World} {past : Past} {items : List Item} {item : GroupItem} {l
       entry in
       let item_is = group_of_grown world.handed world.opening items item last (Call entry ∷ []) after_few
       so_far.item_is in
-      recorded_on items (Call entry) so_far.earlier grown.0 (grown.1 ∙ so_far.answered_are) (grown.2 ∙ so_far.begun_are)
-      (λ i. world.known ++ sym grown.1 i ++ sym grown.2 i)
-      (latest_of grown.0 (grown.2 ∙ so_far.begun_are) (latest_grown_call items entry item so_far.latest) item_is
-      parity_now) (search groups_grown_call) (search answers_grown_call)
+      recorded_on items (Call entry) so_far.earlier grown.0 (cc) (cc) (simp (grown.1, grown.2))
+      (latest_of grown.0 (cc) (latest_grown_call items entry item so_far.latest) item_is parity_now)
+      (search groups_grown_call) (search answers_grown_call)
       (each_grown_call IsSound items entry so_far.sound right.sound) (search (caused_call, arith))
       (search (kept_more, some_items, latest_now)) here knows
 

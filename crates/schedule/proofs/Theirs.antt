@@ -1,5 +1,5 @@
 -- The calls under way of some clients, of whom one has changed.
-use Rattle.schedule.proofs.Words.{◌≡◌, ◌≢◌, ⊎_elim, ℕ, zero, suc, List, [], ◌∷◌, ◌++◌, Option, Some, None, sym, ◌∙◌, subst, refl, Contains, IsSome, slice_get, ⊤, cases_eq, false≢true, Contains-append_cases, Contains-append_left, Contains-append_right, flat_map-append, Gains, listed_cases, none_listed, CommitRun, Script, AttachRun, attach_commit, Core, HoldingCall, actor_of, IsBeforeCommit, Client, UnderWay, Work, Changes, AreGoing, IsGoing, IsHoldOf, IsTheirs, MakesCommit, call_of_client, calls_under_way, commit_in, held_by, held_under, begun_at, made_in, arith}
+use Rattle.schedule.proofs.Words.{◌≡◌, ◌≢◌, ⊎_elim, ℕ, zero, suc, List, [], ◌∷◌, ◌++◌, Option, Some, None, sym, subst, refl, Contains, IsSome, slice_get, ⊤, cases_eq, false≢true, Contains-append_cases, Contains-append_left, Contains-append_right, flat_map-append, Gains, listed_cases, none_listed, CommitRun, Script, AttachRun, attach_commit, Core, HoldingCall, actor_of, IsBeforeCommit, Client, UnderWay, Work, Changes, AreGoing, IsGoing, IsHoldOf, IsTheirs, MakesCommit, call_of_client, calls_under_way, commit_in, held_by, held_under, begun_at, made_in, arith}
 use Rattle.schedule.specs.declared.client.Work.TheVariants as work
 
 pub some_is : {A : Type 0} {one two : A} → Some one ≡ Some two → one ≡ two
@@ -34,28 +34,19 @@ pub record IsSomeones (clients : List Client) (call : HoldingCall) : Type 0 wher
 pub whose : (clients : List Client) {call : HoldingCall} → Contains (calls_under_way clients) call
     → IsSomeones clients call
 whose [] {call = call} listed = absurd (none_listed call listed)
-whose (first ∷ clients) {call = call} listed = ⊎_elim (mine first.under_way refl) (λ rest. later (whose clients rest))
-    (Contains-append_cases (call_of_client first) (calls_under_way clients) call listed)
-  where
-    mine : (under : Option UnderWay) → first.under_way ≡ under → Contains (held_under under) call
-        → IsSomeones (first ∷ clients) call
-    mine None is none = absurd (none_listed call none)
-    mine (Some under) is held = record {
-      index = 0;
-      client = first;
-      under = under;
-      going = search;
-      held = held;
-    }
-
-    later : IsSomeones clients call → IsSomeones (first ∷ clients) call
-    later found = record {
+whose (first ∷ clients) {call = call} listed = ⊎_elim (mine first.under_way refl) (λ rest.
+    let found = whose clients rest in record {
       index = suc found.index;
       client = found.client;
       under = found.under;
       going = search;
       held = found.held;
-    }
+    }) (Contains-append_cases (call_of_client first) (calls_under_way clients) call listed)
+  where
+    mine : (under : Option UnderWay) → first.under_way ≡ under → Contains (held_under under) call
+        → IsSomeones (first ∷ clients) call
+    mine None is none = absurd (none_listed call none)
+    mine (Some under) is held = record { index = 0; client = first; under = under; going = search; held = held }
 
 -- A client's call is one of those under way.
 pub is_among : (clients : List Client) (index : ℕ) {client : Client} {under : UnderWay} (call : HoldingCall)
@@ -174,7 +165,7 @@ abbrev pub IsNoAttach : Option UnderWay → Type 0
 IsNoAttach its = (under : UnderWay) (run : AttachRun) → its ≡ Some under → under.work ≡ work.Attach run → ⊥
 
 pub idle_no_attach : {its : Option UnderWay} → its ≡ None → IsNoAttach its
-idle_no_attach idle under run is does = none_some (sym idle ∙ is)
+idle_no_attach idle under run is does = cc
 
 -- So it is where the work is this one, which is none.
 pub other_no_attach : {its : Option UnderWay} {under : UnderWay} {does : Work} → its ≡ Some under → under.work ≡ does
@@ -260,10 +251,8 @@ module _ {clients news : List Client} {index : ℕ} {old client : Client} (was :
   -- The commit under way is a client's still, where this one's work makes and made none.
   pub commit_stays : (commit : Option CommitRun) → IsNoCommit old.under_way → IsNoCommit client.under_way
       → IsTheirs clients commit → IsTheirs news commit
-  commit_stays None was_none is_none none = each_going {T = λ other its its_under. MakesCommit its_under.work → ⊥}
-      (no_commit_under is_none) (search none)
-  commit_stays (Some run) was_none is_none (other, its, its_under, its_going, is) =
-      (other, its, its_under, search (going_on, apart_of_commit, makes_commit, is), is)
+  commit_stays commit was_none is_none theirs =
+      grind (arith, each_going, going_on, apart_of_commit, makes_commit, no_commit_under)
 
   -- The one commit has ended.
   pub commit_gone : IsNoCommit client.under_way → OnlyIt clients index → IsTheirs news None

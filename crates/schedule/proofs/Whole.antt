@@ -103,8 +103,7 @@ module _ {script : Script} {old mid : Disk} {pool : Pool} {silent : ℕ} {items 
     -- No space was found only where the chosen group's blocks and the script's are many.
     no_space : NoSpaceIsCaused script begins.opened.chosen.uber begins.opened.chosen.entries items
     no_space =
-        let alike = begins.opened.alike in
-        let renews = begins.opened.renews.alike in
+        let alike = begins.opened.alike in let renews = begins.opened.renews.alike in
         no_space_alike script pool.uber begins.opened.chosen.uber pool.blocks.table.entries begins.opened.chosen.entries
         items (search arith) (search arith) (search arith) (search arith)
         (come.space pool.uber pool.blocks.table.entries (uses_first script pool mid right born loaded)).caused
