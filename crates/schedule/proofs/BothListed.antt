@@ -2,9 +2,6 @@
 use Rattle.schedule.proofs.Words.{◌≡◌, inl, inr, ℕ, suc, ◌<◌, ◌≤◌, List, [], ◌∷◌, ◌++◌, length, refl, arith, length-append, AllZip, cases_lt, Entry, Item, Group, Call, Map, PutBytes, GroupAt, IsGroupBefore, Calls, Follows, GroupsAreRight, Kept, Groups, IsGroupOf, groups_in, contains_none, grown_has, group_before_first, new_or_before, group_of_grown, width_step_where}
 use Rattle.core_state.specs.declared.item.Group.{Group as GroupItem}
 
-same_group : {one other : GroupItem} → Group one ≡ Group other → one ≡ other
-same_group is = cc
-
 -- The last group before an index is one alone.
 pub one_latest : {items : List Item} {index : ℕ} {one other : GroupItem} → IsGroupBefore items index one
     → IsGroupBefore items index other → one ≡ other
@@ -65,7 +62,7 @@ module _ (items : List Item) (group : GroupItem) (entry : Entry) where
       each = λ index before next is there. elim (new_or_before with_group (Call entry) index (Group next) there) [
         | inl new ↦ cc
         | inr old ↦ elim (new_or_before items (Group group) index (Group next) old.1) [
-          | inl new ↦ newest before next new.0 (same_group new.1) is
+          | inl new ↦ newest before next new.0 (cc) is
           | inr older_one ↦ search older
         ]
       ];
@@ -80,4 +77,4 @@ module _ (items : List Item) (group : GroupItem) (entry : Entry) where
       (search (groups_with_call, each_later, each_within, contains_none, arith), refl, refl)
     where
       each_within : (index : ℕ) (other : GroupItem) → GroupAt with_group index other → other.after ≤ length with_group
-      each_within index other there = search (new_or_before, same_group, length-append, after, arith)
+      each_within index other there = search (new_or_before, length-append, after, arith)

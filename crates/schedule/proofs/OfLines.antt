@@ -17,9 +17,6 @@ callers_more : (items more : List Item) → callers_in (items ++ more) ≡ calle
 callers_more [] more = refl
 callers_more (item ∷ items) more = grind (arith, callers_more items more)
 
-call_is : {one other : Entry} → Call one ≡ Call other → one ≡ other
-call_is is = cc
-
 -- So many calls of an only client are answered, if each answer is of its call's kind.
 record Follows (items : List Item) (answered : ℕ) : Type 0 where
   callers : callers_in items ≡ replicate answered 0
@@ -231,10 +228,6 @@ none_second [] none = omega arith
 none_second (only ∷ []) none = omega arith
 none_second (first ∷ second ∷ clients) none = cc
 
--- What the client has answered is within what it has to call.
-answered_within : {begun most : ℕ} (under : Option UnderWay) → begun ≤ most → answered_of begun under ≤ most
-answered_within under few = grind arith
-
 one_alone : (script : Script) (actor : ℕ) (before after : Turns) → IsTurnOf script actor before after
     → AreAlone script before → AreAlone script after
 one_alone script actor before after turn alone = ⊎_elim
@@ -252,7 +245,7 @@ one_alone script actor before after turn alone = ⊎_elim
           few = its.2.others 1 (λ one. omega (arith, first, one)) ∙ alone.few;
           answered = answered_of its.0.begun its.0.under_way;
           follows = now.follows;
-          within = answered_within its.0.under_way now.few;
+          within = let few = now.few in grind arith;
           each = λ other is. rw (let same : its.0 ≡ other = some_is (cc) in same) at now;
         }
 
