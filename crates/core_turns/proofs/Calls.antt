@@ -38,18 +38,18 @@ range_listed (call ∷ calls) run listed = ⊎_elim
     behind (Copying other) there = there
 
 -- and a read has none.
-pub ranges_read : (left calls : List HoldingCall) (run : GetRun) → Gains left calls (Reading run)
+pub ranges_read : {left calls : List HoldingCall} {run : GetRun} → Gains left calls (Reading run)
     → ranges_of calls ≡ ranges_of left
-ranges_read left calls run gains = ap ranges_of gains.is
+ranges_read {run = run} gains = ap ranges_of gains.is
     ∙ filter_map-append range_in gains.before (Reading run ∷ gains.after)
     ∙ sym (filter_map-append range_in gains.before gains.after) ∙ ap ranges_of (sym gains.was)
 
 -- A call comes.
-pub calls_gain : (old new : Core) (left calls : List HoldingCall) (call : HoldingCall) → Gains left calls call
+pub calls_gain : {old new : Core} {left calls : List HoldingCall} {call : HoldingCall} → Gains left calls call
     → KeepsCalls old new → ((hold : Hold) → Contains old.holds hold → Contains new.holds hold)
     → AreUnderWay new.pool.blocks (ranges_of calls) → IsCallOfCore new call
     → ((other : HoldingCall) → Contains left other → AreBeside call other) → AreCallsOf old left → AreCallsOf new calls
-calls_gain old new left calls call gains keeps kept under of beside are = record {
+calls_gain {left = left} {calls} {call} gains keeps kept under of beside are = record {
   each = λ other listed. ⊎_elim
       (λ (same : call ≡ other). rw same at of)
       (λ was. let old_of = are.each other was in
@@ -59,11 +59,11 @@ calls_gain old new left calls call gains keeps kept under of beside are = record
 }
 
 -- A call ends, and its hold with it.
-pub calls_lose : (old new : Core) (left calls : List HoldingCall) (call : HoldingCall) → Gains left calls call
-    → KeepsCalls old new
-    → EndsHold old.holds new.holds (hold_of_call call) → AreUnderWay new.pool.blocks (ranges_of left)
+pub calls_lose : {old new : Core} {left calls : List HoldingCall} {call : HoldingCall} → Gains left calls call
+    → KeepsCalls old new → EndsHold old.holds new.holds (hold_of_call call)
+    → AreUnderWay new.pool.blocks (ranges_of left)
     → AreCallsOf old calls → AreCallsOf new left
-calls_lose old new left calls call gains keeps ends under are = record {
+calls_lose {old} {new} {left} {calls} {call} gains keeps ends under are = record {
   each = λ other listed. let of = are.each other (gains_old left calls call other gains listed) in
       call_of_stays old new other keeps
       (ends_other old.holds new.holds (hold_of_call call) (hold_of_call other) ends (hold_listed old other of)
@@ -73,11 +73,11 @@ calls_lose old new left calls call gains keeps ends under are = record {
 }
 
 -- A call goes on: another stands in its place, of the same hold and apart from whatever it was apart from.
-pub calls_swap : (core : Core) (left calls nexts : List HoldingCall) (call next : HoldingCall) → Gains left calls call
+pub calls_swap : {core : Core} {left calls nexts : List HoldingCall} {call next : HoldingCall} → Gains left calls call
     → Gains left nexts next → hold_of_call next ≡ hold_of_call call
     → ((other : HoldingCall) → HaveNoneInCommon call other → HaveNoneInCommon next other) → IsCallOfCore core next
     → AreUnderWay core.pool.blocks (ranges_of nexts) → AreCallsOf core calls → AreCallsOf core nexts
-calls_swap core left calls nexts call next gains again hold apart of under are = record {
+calls_swap {left = left} {calls} {nexts} {call} {next} gains again hold apart of under are = record {
   each = λ other listed. ⊎_elim
       (λ (same : next ≡ other). rw same at of)
       (λ was. are.each other (gains_old left calls call other gains was))

@@ -17,7 +17,7 @@ under_read : {left calls : List HoldingCall} {run : GetRun} (old new : Core) →
     → (AreUnderWay old.pool.blocks (ranges_of left) → AreUnderWay new.pool.blocks (ranges_of calls))
     × (AreUnderWay old.pool.blocks (ranges_of calls) → AreUnderWay new.pool.blocks (ranges_of left))
 under_read {left} {calls} {run} old new blocks gains =
-    let same = ranges_read left calls run gains in search arith
+    let same = ranges_read gains in search arith
 
 -- A read begins: no put has a sector of its block, which stands in the table.
 pub get_begins_calls : {old new : Core} {run : GetRun} {left calls : List HoldingCall} (actor id : ℕ) (asked : Kind)
@@ -25,7 +25,7 @@ pub get_begins_calls : {old new : Core} {run : GetRun} {left calls : List Holdin
     → ((call : HoldingCall) → Contains left call → actor_of call ≢ actor) → Gains left calls (Reading run)
     → AreCallsOf old left → AreCallsOf new calls
 get_begins_calls {old} {new} {run} {left} {calls} actor id asked reads is begins apart gains are =
-    calls_gain old new left calls (Reading run) gains (calls_held old new begins.6)
+    calls_gain gains (calls_held old new begins.6)
     (λ hold listed. begins_holds old new actor id asked (More run) hold begins listed)
     ((under_read old new (cc) gains).0 are.under) (subst IsReadKind (sym begins.2) reads, begins.7)
     (search (none_in_common, arith)) are
@@ -56,7 +56,7 @@ read_swaps : {core : Core} {run next : GetRun} {left calls nexts : List HoldingC
     → next.read.layout ≡ run.read.layout → IsReadKind next.kind × IsGetOf core next → Gains left calls (Reading run)
     → Gains left nexts (Reading next) → AreCallsOf core calls → AreCallsOf core nexts
 read_swaps {core} {run} {next} {left} {calls} {nexts} hold layout of gains again are =
-    calls_swap core left calls nexts (Reading run) (Reading next) gains again hold (search read_apart) of
+    calls_swap gains again hold (search read_apart) of
     ((under_read core core refl again).0 ((under_read core core refl gains).1 are.under)) are
 
 -- Devices that are out stay out over a column,
@@ -70,7 +70,7 @@ pub get_reads_calls : {before after : CoreState} {run next : GetRun} {left calls
     → AreCallsOf before.core calls → AreCallsOf after.core nexts
 get_reads_calls {before} {after} {run} {next} {left} {calls} reads gains again are =
     let of = are.each (Reading run) (gains_item left calls (Reading run) gains) in
-    read_swaps (cc) reads.3.on.layout_is (search arith, search (get_of_more, arith))
+    read_swaps (cc) reads.3.on.layout_is (search arith, get_of_more before after (More next) of.1 reads)
     gains again (calls_stay before.core after.core calls reads.2 (column_outs reads.3) are)
 
 -- and when the block is solved.
@@ -85,5 +85,4 @@ pub get_ends_calls : {old new : Core} {run : GetRun} {left calls : List HoldingC
     → EndsHold old.holds new.holds run.hold → Gains left calls (Reading run) → AreCallsOf old calls
     → AreCallsOf new left
 get_ends_calls {old} {new} {run} {left} {calls} core ends gains are =
-    calls_lose old new left calls (Reading run) gains (calls_held old new core) ends
-    ((under_read old new (cc) gains).1 are.under) are
+    calls_lose gains (calls_held old new core) ends ((under_read old new (cc) gains).1 are.under) are

@@ -27,12 +27,12 @@ get_finds map old new disk actor id asked (Done given) holds begins = search (by
         clash same = cc
 
 -- A read that has one column more is of its block still.
-pub get_reads : (content : List ℕ) (before after : CoreState) (run : GetRun) (result : Turn GetRun)
+pub get_reads : {content : List ℕ} (before after : CoreState) {run : GetRun} (result : Turn GetRun)
     → IsFrontOf before.core.pool.uber.reflow before.core.pool.done → IsGetOf before.core run → IsAtColumn run.read
     → run.read.row < rows_of run.read.layout → Unchanged before.disk after.disk
     → OnlyFailedGoOut (point_of before.core.pool.out before.disk) (point_of after.core.pool.out after.disk)
     → HoldsGet content before run → ReadsTurn before run after result → KeepsGet content after result
-get_reads content before after run (More next) front of place left unchanged outs holds reads =
+get_reads {content} before after {run} (More next) front of place left unchanged outs holds reads =
     let reflow = before.core.pool.uber.reflow in
     let done = before.core.pool.done in
     subst (λ (core : Core). HoldsGet content (at_disk core after.disk) next) (sym reads.2) (rw reads.1 (record {
@@ -49,8 +49,7 @@ get_reads content before after run (More next) front of place left unchanged out
           (point_of after.core.pool.out after.disk) place left of.pool front.front holds.right reads.3 holds.so_far;
       solved = λ few. holds.solved reads.0;
     }))
-get_reads content before after run (Busy by) front of place left unchanged outs holds reads = tt
-get_reads content before after run (Done given) front of place left unchanged outs holds reads = tt
+get_reads before after other front of place left unchanged outs holds reads = tt
 
 -- What is solved of a block that was read whole is the block.
 pub get_solves : (content : List ℕ) (state : CoreState) (run next : GetRun) → run.read.row ≡ rows_of run.read.layout
@@ -81,12 +80,7 @@ get_tells content old new disk run (Done given) asked holds ends = search (by, c
         → IsReadRight (Some content) asked (answer_of asked run.entry bytes)
     told bytes kind.Get is same = same
     told bytes kind.Sum is same = (cc, cc)
-    told bytes kind.Put is same = absurd is
-    told bytes kind.Free is same = absurd is
-    told bytes kind.Sync is same = absurd is
-    told bytes kind.Attach is same = absurd is
-    told bytes kind.Copy is same = absurd is
-    told bytes kind.Scrub is same = absurd is
+    told bytes other is same = absurd is
 
     by : (solved : Solved) → IsSolvedAs content solved → AnswersSolved run solved given
         → IsReadRight (Some content) run.kind given

@@ -8,11 +8,11 @@ use Rattle.core_turns.proofs.JobLaws.{IsJobOff}
 -- ---- beside a put
 
 -- A put writes where the job neither reads nor writes: no sector of its block is one of the job's.
-pub job_off_written : (core : Core) (run : PutRun) (other : CopyRun) (out : ℕ) → IsPutOf core run → IsJobOf core other
+pub job_off_written : {core : Core} {run : PutRun} {other : CopyRun} (out : ℕ) → IsPutOf core run → IsJobOf core other
     → ShareNoSector run.hold other.hold
     → IsJobOff (IsWrittenTo run.range.layout core.pool.uber.reflow core.pool.done out) core.pool.uber.reflow
     core.pool.done other.job
-job_off_written core run other out of job apart = record { places = off }
+job_off_written {core} {run} {other} out of job apart = record { places = off }
   where
     off : (cell : Cell) (device device_sector : ℕ) → IsClose core.pool.uber.reflow cell
         → CopiesSector core.pool.uber.reflow other.job.job cell.sector

@@ -53,7 +53,7 @@ pub job_steps_calls : {before after : CoreState} {run next : CopyRun} {left call
     → Gains left calls (Copying run) → Gains left nexts (Copying next) → AreCallsOf before.core calls
     → AreCallsOf after.core nexts
 job_steps_calls {before} {after} {run} {next} {left} {calls} {nexts} steps of within gains again are =
-    calls_swap after.core left calls nexts (Copying run) (Copying next) gains again steps.hold same_apart of
+    calls_swap gains again steps.hold same_apart of
     (rw (ranges_copied left nexts next again) (subst (λ (l : List PutRange). AreUnderWay after.core.pool.blocks l)
     (ranges_copied left calls run gains) now.under)) now
   where

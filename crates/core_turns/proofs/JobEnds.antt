@@ -69,7 +69,7 @@ module _ (core : Core) (run : CopyRun) (is : IsCore core) (of : IsJobOf core run
       holds = alone_passes core.pool.done behind core.holds holds run.hold
           (hold_for reflow commit.uber.reflow its.actor) refl
           (cc) (search (job_at_front, arith)) (search (job_some, job_at_front, arith))
-          (below_behind core run holds is of ends).1 ends its.holds;
+          (below_behind is of ends).1 ends its.holds;
       lists = its.lists;
       reach = its.reach;
     }

@@ -1,41 +1,30 @@
 -- What stands between two turns stands over each turn of a job, and so does what images keep.
-use Rattle.core_turns.proofs.Words.{◌≡◌, inr, ⊎_elim, ℕ, ◌<◌, ◌≤◌, List, [], ◌∷◌, Option, refl, sym, ◌∙◌, ap, subst, arith, Contains, Disk, Lawful, Tells, TouchesOnly, Hold, Exclusive, Reflow, Layout, Gains, Fill, IsWithin, Uber, count_none, AreAlike, layout_of, Map, Kept, Setting, IsSound, Point, point_of, IsSpare, IsRowOf, KeepsSince, Cell, RightAt, contains_cases, contains_none, contains_head, contains_tail, chooses, around_alone, around_begins, IsCommitChoice, copied_of, IsCellIn, IsClose, StandAround, CopiesSector, IsTarget, MovesMark, call_count, choice_moves, sound_close, job_at_front, job_spare, target_free, gains_cases, gains_item, gains_old, pairs_beside, IsInPool, CommitRun, IsBeside, shown_at, Stage, Lays, sound_paged, begun_run, present_sector, HoldsJob, present_in, run_begins, run_steps, step_goes_on, target_at, listed_in_pool, CopyRun, PutRun, Core, CoreState, IsCore, as_begun, at_disk, HasBankOf, BeginsJobSo, CopiesCells, DropsJob, IsJobOf, StepsJob, HoldingCall, Putting, Reading, Copying, AreBeside, AreCallsOf, CommitStands, IsCallOfCore, NoCommitStands, PutsSpare, Stands, actor_of, shown_of}
+use Rattle.core_turns.proofs.Words.{◌≡◌, inr, ⊎_elim, ℕ, ◌<◌, ◌≤◌, List, [], ◌∷◌, Option, sym, ◌∙◌, ap, subst, arith, Contains, Disk, Lawful, Tells, TouchesOnly, Hold, Exclusive, Reflow, Layout, Gains, Fill, IsWithin, Uber, count_none, AreAlike, Map, Kept, Setting, IsSound, Point, point_of, IsSpare, IsRowOf, KeepsSince, Cell, RightAt, contains_cases, contains_none, contains_head, contains_tail, chooses, around_alone, around_begins, IsCommitChoice, copied_of, IsCellIn, IsClose, StandAround, CopiesSector, IsTarget, MovesMark, call_count, choice_moves, sound_close, job_at_front, job_spare, target_free, gains_cases, gains_item, gains_old, IsInPool, CommitRun, IsBeside, shown_at, Stage, Lays, sound_paged, begun_run, present_sector, HoldsJob, present_in, run_begins, run_steps, step_goes_on, target_at, listed_in_pool, CopyRun, PutRun, Core, CoreState, IsCore, as_begun, at_disk, HasBankOf, BeginsJobSo, CopiesCells, DropsJob, IsJobOf, StepsJob, HoldingCall, Putting, Reading, Copying, AreBeside, AreCallsOf, CommitStands, IsCallOfCore, NoCommitStands, Stands, shown_of}
 use Rattle.reflow_mark.specs.declared.reflow.State.TheVariants.{None as Unmoved}
 use Rattle.uberblock_ring.specs.Devices.{count_of}
 use Rattle.core_commit.specs.declared.commit_run.Stage.TheVariants.{Signs}
-use Rattle.core_turns.proofs.Calls.{beside_turn}
 use Rattle.core_turns.proofs.Cores.{bank_has, bank_within}
-use Rattle.core_turns.proofs.Frames.{AreOff, IsCallOff, IsOff, Leaves, call_stays, leaves_touched}
-use Rattle.core_turns.proofs.StandFrames.{stands_anew}
-use Rattle.core_turns.proofs.GetStands.{AddsNoPut, OnlyHeld, stands_held}
+use Rattle.core_turns.proofs.Frames.{AreOff, IsCallOff, IsOff}
+use Rattle.core_turns.proofs.GetStands.{AddsNoPut, OnlyHeld, call_loses, stands_held}
 use Rattle.core_turns.proofs.Holds.{alone_beside, alone_passes, KeepsAlone}
 use Rattle.core_turns.proofs.JobBeside.{off_target}
 use Rattle.core_turns.proofs.JobLaws.{all_used, target_data}
-use Rattle.core_turns.proofs.JobTurns.{IsWrittenBy, due_runs, none_left, step_touches_target}
-use Rattle.core_turns.proofs.PutStands.{groups_with}
-use Rattle.core_turns.proofs.WritesBeside.{AreSpare, groups_written, since_written}
+use Rattle.core_turns.proofs.JobTurns.{IsWrittenBy, due_runs, hold_at_front, none_left, step_touches_target}
+use Rattle.core_turns.proofs.WritesBeside.{AreSpare, since_written, writes_stand}
 
 copying_putting : {job : CopyRun} {put : PutRun} → Copying job ≡ Putting put → ⊥
 copying_putting same = cc
 
--- A job that comes adds no put,
+-- A job that comes adds no put.
 job_adds : {left calls : List HoldingCall} {run : CopyRun} → Gains left calls (Copying run) → AddsNoPut left calls
 job_adds {left} {calls} {run} gains put listed = ⊎_elim
     (search (copying_putting, arith))
     (λ was. was) (gains_cases left calls (Copying run) (Putting put) gains listed)
 
--- one that ends neither.
-job_loses : {left calls : List HoldingCall} {run : CopyRun} → Gains left calls (Copying run) → AddsNoPut calls left
-job_loses gains put listed = search gains_old
-
 -- No device is none.
 none_counted : count_of 0 ≡ 0
 unfolding count_of
 none_counted = count_none 64
-
--- A job's hold begins at the front.
-hold_at_front : (core : Core) (run : CopyRun) → IsJobOf core run → run.hold.lo ≡ core.pool.done
-hold_at_front core run of = search (job_at_front, arith)
 
 -- ---- its hold beside that of a commit
 
@@ -56,10 +45,10 @@ pub job_drops_alone : {old new : Core} {run : CopyRun} → IsCore old → DropsJ
     → KeepsAlone old.pool.done old.holds new.holds
 job_drops_alone {old} {new} {run} is drops of hold exclusive =
     alone_passes old.pool.done old.pool.done old.holds new.holds run.hold hold exclusive
-    (cc) (omega (arith, lo)) (omega arith) (none_left old run new.holds is of drops.ends).1 drops.ends
+    (cc) (omega (arith, lo)) (omega arith) (none_left is of drops.ends).1 drops.ends
   where
     lo : run.hold.lo ≡ old.pool.done
-    lo = hold_at_front old run of
+    lo = hold_at_front of
 
 -- ---- what stands
 
@@ -93,7 +82,7 @@ module _ {setting : Setting} {last : Kept} {begun : List Kept} {map : Map} {cont
       → Stands setting last begun map contents calls commit (at_disk old disk)
       → Stands setting last begun map contents left commit (at_disk new disk)
   job_drops_stands {old} {new} {disk} is drops of gains stands =
-      stands_held old new disk is only (job_drops_alone is drops of) (job_loses gains)
+      stands_held old new disk is only (job_drops_alone is drops of) (call_loses gains)
       (λ call listed. inr (stands.each call (search gains_old))) stands
     where
       only : OnlyHeld old new
@@ -122,15 +111,8 @@ module _ {before after : CoreState} {run next : CopyRun} (is : IsCore before.cor
   abbrev there : Point
   there = point_of after.core.pool.out after.disk
 
-  -- the state after it, as the turn says
-  abbrev stepped : CoreState
-  stepped = at_disk (record before.core { pool = record before.core.pool { out = after.core.pool.out } }) after.disk
-
   touched : TouchesOnly places before.disk after.disk
   touched = search step_touches_target
-
-  leaves : Leaves places before stepped
-  leaves = search (leaves_touched, touched)
 
   -- The sector is one of the job's,
   inside : CopiesSector reflow run.job.job (present_sector run.job)
@@ -142,20 +124,19 @@ module _ {before after : CoreState} {run next : CopyRun} (is : IsCore before.cor
   at_target device device_sector place = search (target_at, arith)
 
   -- Blocks of the pool are off it,
-  layout_off : (layout : Layout) → IsInPool layout reflow → IsOff places reflow done layout
-  layout_off layout pool content cell device device_sector cell_is place written =
+  layout_off : {layout : Layout} → IsInPool layout reflow → IsOff places reflow done layout
+  layout_off pool content cell device device_sector cell_is place written =
       search (off_target, inside, at_target)
 
   table_off : AreOff places before.core
   table_off entry listed = layout_off
-      (layout_of before.core.pool.uber.parity before.core.pool.uber.births entry)
       (listed_in_pool (as_begun before.core) entry is.is is.step listed)
 
   -- and so is what other calls rely on.
   call_off : (call : HoldingCall) → AreBeside (Copying run) call → IsCallOfCore before.core call
       → IsCallOff places reflow done call
-  call_off (Putting put) beside its = layout_off put.range.layout its.pool
-  call_off (Reading get) beside its = layout_off get.read.layout its.1.pool
+  call_off (Putting put) beside its = layout_off its.pool
+  call_off (Reading get) beside its = layout_off its.1.pool
   call_off (Copying other) beside its = absurd beside.apart
 
   -- Not too many devices are out: none is.
@@ -273,25 +254,17 @@ module _ {before after : CoreState} {run next : CopyRun} (is : IsCore before.cor
     -- A step of a job leaves what stands, and has come one call further.
     pub job_steps_stands : {nexts : List HoldingCall} → Lawful after.disk → Gains left nexts (Copying next)
         → Stands setting last begun map contents nexts commit after
-    job_steps_stands {nexts} still_lawful again =
-        subst (λ (core : Core). Stands setting last begun map contents nexts commit (at_disk core after.disk))
-        (sym steps.rest) (stands_anew places before stepped leaves table_off refl touched.later
-        (groups_with setting last begun calls nexts commit stepped fewer
-        (search (groups_written, touched, few, spare_now))) (fewer last stands.spared)
-        (λ call listed. ⊎_elim
-        (λ same. rw (← same) (copies_on stands.tells stands.bank
-        (stands.each (Copying run) (gains_item left calls (Copying run) gains))))
-        (λ other.
-        let was = gains_old left calls (Copying run) call gains other in
-        let beside = pairs_beside AreBeside beside_turn calls left (Copying run) call gains are.beside other in
-        call_stays places (contents (actor_of call)) before stepped call leaves
-        (call_off call beside (are.each call was))
-        (stands.each call was)) (gains_cases left nexts (Copying next) call again listed)) stands)
-      where
-        fewer : (group : Kept) → PutsSpare stepped calls group → PutsSpare stepped nexts group
-        fewer group spared put listed = search (job_loses, job_adds)
+    job_steps_stands still_lawful again =
+        writes_stand after touched within lawful few (spare_now setting last begun calls stands.alike) steps.rest
+        still_lawful is.is.front table_off call_off gains again
+        (λ group spares put listed. spares put (call_loses gains put (job_adds again put listed)))
+        (copies_on stands.tells stands.bank (stands.each (Copying run) (gains_item left calls (Copying run) gains))) are
+        stands
 
     -- Each image keeps what it kept, at each moment of it.
     pub job_steps_since : (groups : List Kept) (time : ℕ) → IsRowOf groups last (shown_of begun commit)
         → KeepsSince setting groups time before.disk → KeepsSince setting groups time after.disk
-    job_steps_since groups time row kept = search (since_written, touched, few, spare_now)
+    job_steps_since groups time row =
+        since_written after touched within lawful few (spare_now setting last begun calls stands.alike) commit groups
+        time
+        row stands.groups

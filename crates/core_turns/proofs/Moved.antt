@@ -1,12 +1,11 @@
 -- A put goes on in a pool whose reflow or front has moved, where that asks for its block at the places at which it did.
-use Rattle.core_turns.proofs.Words.{◌≡◌, ℕ, ◌+◌, ◌≤◌, List, sym, subst, Contains, Disk, Reflow, Layout, Write, IsRequiredPlace, Rows, Cell, IsCell, IsFrontOf, IsRangeFor, IsInPool, IsRightBlock, IsPlanOf, IsWrittenSoFar, PutRun, Core, at_disk, AsksAlike, HoldsPut, IsPutOf}
+use Rattle.core_turns.proofs.Words.{◌≡◌, ℕ, ◌+◌, ◌≤◌, List, Contains, Disk, Reflow, Layout, Write, Rows, IsFrontOf, IsRangeFor, IsInPool, IsRightBlock, IsPlanOf, PutRun, Core, at_disk, AsksAlike, HoldsPut, IsPutOf}
 
 -- A plan is one at the places at which the block is asked for now.
-pub plan_moves : (layout : Layout) (reflow : Reflow) (done : ℕ) (other : Reflow) (front : ℕ) (content : List ℕ)
-    (rows : Rows)
-    (writes : List Write) → AsksAlike layout reflow done other front → IsInPool layout other → IsFrontOf other front
+pub plan_moves : {layout : Layout} {reflow other : Reflow} {done front : ℕ} {content : List ℕ} {rows : Rows}
+    {writes : List Write} → AsksAlike layout reflow done other front → IsInPool layout other → IsFrontOf other front
     → IsPlanOf layout reflow done content rows writes → IsPlanOf layout other front content rows writes
-plan_moves layout reflow done other front content rows writes alike pool front_is plan = record {
+plan_moves alike pool front_is plan = record {
   pool = pool;
   front = front_is;
   encoded = plan.encoded;
@@ -19,30 +18,20 @@ plan_moves layout reflow done other front content rows writes alike pool front_i
 }
 
 -- A block is right at the places at which it is asked for now.
-pub block_moves : (layout : Layout) (reflow : Reflow) (done : ℕ) (other : Reflow) (front : ℕ) (content : List ℕ)
-    (disk : Disk)
-    (out : ℕ) → AsksAlike layout reflow done other front → IsRightBlock layout content reflow done disk.reads out
+pub block_moves : {layout : Layout} {reflow other : Reflow} {done front : ℕ} {content : List ℕ} (disk : Disk) {out : ℕ}
+    → AsksAlike layout reflow done other front → IsRightBlock layout content reflow done disk.reads out
     → IsRightBlock layout content other front disk.reads out
-block_moves layout reflow done other front content disk out alike right = record {
+block_moves disk alike right = record {
   each = λ cell is. record {
     at = λ device device_sector place. (right.each cell is).at device device_sector
-        (back cell is device device_sector place);
+        (rw (is.row_end, is.sector) ((alike is.row is.column is.there device device_sector).1
+        (rw (is.row_end, is.sector) at place)));
   };
 }
-  where
-    back : (cell : Cell) (is : IsCell layout content cell) (device device_sector : ℕ)
-        → IsRequiredPlace other front cell.row_end cell.sector device device_sector
-        → IsRequiredPlace reflow done cell.row_end cell.sector device device_sector
-    back cell is device device_sector place =
-        subst (λ (at : ℕ × ℕ). IsRequiredPlace reflow done at.0 at.1 device device_sector)
-        (λ i. (sym is.row_end i, sym is.sector i)) ((alike is.row is.column is.there device device_sector).1
-        (subst (λ (at : ℕ × ℕ). IsRequiredPlace other front at.0 at.1 device device_sector)
-        (λ i. (is.row_end i, is.sector i)) place))
 
 module _ (core new : Core) (put : PutRun) (its : IsPutOf core put)
-    (alike : AsksAlike put.range.layout core.pool.uber.reflow
-    core.pool.done new.pool.uber.reflow new.pool.done) (pool : IsInPool put.range.layout new.pool.uber.reflow)
-    (front : IsFrontOf new.pool.uber.reflow new.pool.done) where
+    (alike : AsksAlike put.range.layout core.pool.uber.reflow core.pool.done new.pool.uber.reflow new.pool.done)
+    (pool : IsInPool put.range.layout new.pool.uber.reflow) (front : IsFrontOf new.pool.uber.reflow new.pool.done) where
   -- The put is one of the pool still,
   pub put_moves : IsRangeFor new.pool.blocks put.range.id put.len put.range.birth put.range
       → put.range.birth ≤ new.begun + 1 → Contains new.holds put.hold → IsPutOf new put
@@ -60,10 +49,7 @@ module _ (core new : Core) (put : PutRun) (its : IsPutOf core put)
     len = its.len;
     holds = held;
     hold_is = its.hold_is;
-    filled = λ filled is_filled. let was = its.filled filled is_filled in (
-      was.0,
-      search plan_moves,
-    );
+    filled = λ filled is_filled. let was = its.filled filled is_filled in (was.0, search plan_moves);
   }
 
   -- and what it has written stands.
@@ -74,7 +60,6 @@ module _ (core new : Core) (put : PutRun) (its : IsPutOf core put)
     are_bytes = held.are_bytes;
     so_far = λ filled is_filled. let was = held.so_far filled is_filled in (
       was.0,
-      subst (λ (n : ℕ). IsWrittenSoFar put.range.layout content new.pool.uber.reflow new.pool.done disk.reads n
-          filled.write) (sym out) (search plan_moves),
+      rw out (search plan_moves),
     );
   }

@@ -1,5 +1,5 @@
 -- Which calls are under way over each turn of a put.
-use Rattle.core_turns.proofs.Words.{◌≡◌, ◌≢◌, ℕ, ◌+◌, List, [], ◌∷◌, ◌++◌, length, Option, Some, sym, ◌∙◌, ap, arith, Contains, Hold, Shared, Overlaps, Gains, AreUnderWay, put_run, gains_item, gains_old, free_of_taken, Filled, PutRun, Core, CoreState, BeginsPutSo, FillsPut, GivesUp, IsPutOf, LeavesBlocks, StoresBlock, WritesOne, HoldingCall, Putting, Reading, Copying, AreBeside, AreCallsOf, HaveNoneInCommon, IsCallOfCore, actor_of, ranges_of, point_of}
+use Rattle.core_turns.proofs.Words.{◌≡◌, ◌≢◌, ℕ, ◌+◌, List, length, Option, Some, sym, ◌∙◌, ap, arith, Contains, Hold, Shared, Overlaps, Gains, put_run, gains_item, gains_old, free_of_taken, Filled, PutRun, Core, CoreState, BeginsPutSo, FillsPut, GivesUp, IsPutOf, LeavesBlocks, StoresBlock, WritesOne, HoldingCall, Putting, Reading, Copying, AreCallsOf, HaveNoneInCommon, IsCallOfCore, actor_of, ranges_of}
 use Rattle.core_turns.proofs.Calls.{calls_gain, calls_lose, calls_swap, range_listed}
 use Rattle.core_turns.proofs.Frames.{KeepsCalls, calls_keep, calls_stay}
 use Rattle.core_turns.proofs.PutRanges.{at_end, ranges_gain, under_moved}
@@ -13,7 +13,7 @@ pub record Rearranges (old new : Core) : Type 0 where
   pub births : new.pool.blocks.births ≡ old.pool.blocks.births
 
 -- So all widths stay.
-rearranged_keeps : (old new : Core) → Rearranges old new → KeepsCalls old new
+pub rearranged_keeps : (old new : Core) → Rearranges old new → KeepsCalls old new
 rearranged_keeps old new change = record {
   widths = record {
     parity = search arith;
@@ -39,37 +39,29 @@ begins_rearranges old new actor id len run begins = record {
   births = begins.begins.births;
 }
 
--- It takes sectors that no call under way has.
-begins_beside : {old new : Core} {actor id len : ℕ} {run : PutRun} (left : List HoldingCall)
-    → BeginsPutSo old new actor id len run → AreUnderWay old.pool.blocks (ranges_of left) → (other : HoldingCall)
-    → Contains left other → actor_of other ≢ actor → IsCallOfCore old other → AreBeside (Putting run) other
-begins_beside {old} {run = run} left begins under (Putting other) listed differs of = record {
-  actors = search arith;
-  apart = free_of_taken old.pool.blocks.space old.holds (put_run run.range) begins.begins.first.free
-      (put_run other.range) (under.each other.range (range_listed left other listed)).taken;
-}
-begins_beside left begins under (Reading other) listed differs of = record {
-  actors = λ same. differs (sym same ∙ ap (λ (hold : Hold). hold.actor) begins.hold_is);
-  apart = λ sector in_put in_read.
-      let shared : (other.hold.kind ≡ Shared) × Overlaps other.hold sector (sector + 1) =
-      search arith in
-      (begins.begins.first.free sector in_put).not_shared (other.hold, of.1.holds, shared.0, shared.1);
-}
-begins_beside {old} left begins under (Copying other) listed differs of = record {
-  actors = λ same. differs (sym same ∙ ap (λ (hold : Hold). hold.actor) begins.hold_is);
-  apart = λ overlaps. begins.begins.first.clear other.hold of.holds (search arith);
-}
-
--- So it is under way beside them.
+-- It is under way beside the others: it takes sectors that none of them has.
 pub put_begins_calls : {old new : Core} {actor id len : ℕ} {run : PutRun} {left calls : List HoldingCall}
     → BeginsPutSo old new actor id len run
     → ((call : HoldingCall) → Contains left call → actor_of call ≢ actor) → Gains left calls (Putting run)
     → AreCallsOf old left → AreCallsOf new calls
-put_begins_calls {old} {new} {actor} {id} {len} {run} {left} {calls} begins differs gains are =
-    calls_gain old new left calls (Putting run) gains (search (rearranged_keeps, begins_rearranges)) (search gains_old)
-    (under_moved new.pool.blocks (ranges_of left) (ranges_of left ++ run.range ∷ []) (ranges_of calls) run.range
-    (at_end (ranges_of left) run.range) (ranges_gain gains) (begins.under (ranges_of left) are.under)) begins.of
-    (λ other there. begins_beside left begins are.under other there (differs other there) (are.each other there)) are
+put_begins_calls {old} {new} {run = run} {left} begins differs gains are =
+    calls_gain gains (search (rearranged_keeps, begins_rearranges)) (search gains_old)
+    (under_moved (at_end (ranges_of left) run.range) (ranges_gain gains) (begins.under (ranges_of left) are.under))
+    begins.of
+    (λ other listed. record {
+      actors = λ same. differs other listed (sym same ∙ ap (λ (hold : Hold). hold.actor) begins.hold_is);
+      apart = apart other listed (are.each other listed);
+    }) are
+  where
+    apart : (other : HoldingCall) → Contains left other → IsCallOfCore old other
+        → HaveNoneInCommon (Putting run) other
+    apart (Putting other) listed of = free_of_taken old.pool.blocks.space old.holds (put_run run.range)
+        begins.begins.first.free (put_run other.range) (are.under.each other.range
+        (range_listed left other listed)).taken
+    apart (Reading other) listed of = λ sector in_put in_read.
+        let shared : (other.hold.kind ≡ Shared) × Overlaps other.hold sector (sector + 1) = search arith in
+        (begins.begins.first.free sector in_put).not_shared (other.hold, of.1.holds, shared.0, shared.1)
+    apart (Copying other) listed of = λ overlaps. begins.begins.first.clear other.hold of.holds (search arith)
 
 -- One that is refused calls no device,
 pub leaves_rearranges : (old new : Core) → LeavesBlocks old new → Rearranges old new
@@ -95,10 +87,8 @@ ends_rearranges old new run ends = record { rest = ends.rest; parity = ends.pari
 -- and leaves the others under way;
 pub put_ends_calls : {old new : Core} {run : PutRun} {left calls : List HoldingCall} → StoresBlock old new run
     → Gains left calls (Putting run) → AreCallsOf old calls → AreCallsOf new left
-put_ends_calls {old} {new} {run} {left} {calls} ends gains are =
-    calls_lose old new left calls (Putting run) gains
-    (rearranged_keeps old new (ends_rearranges old new run ends)) ends.ends
-    (ends.under (ranges_of left) (ranges_of calls) (ranges_gain gains) are.under) are
+put_ends_calls ends gains are = calls_lose gains (search (rearranged_keeps, ends_rearranges)) ends.ends
+    (ends.under _ _ (ranges_gain gains) are.under) are
 
 -- so does one that is given up.
 pub gives_up_rearranges : (old new : Core) (run : PutRun) → GivesUp old new run → Rearranges old new
@@ -107,9 +97,8 @@ gives_up_rearranges old new run gives_up =
 
 pub put_gives_up_calls : {old new : Core} {run : PutRun} {left calls : List HoldingCall} → GivesUp old new run
     → Gains left calls (Putting run) → AreCallsOf old calls → AreCallsOf new left
-put_gives_up_calls {old} {new} {run} {left} {calls} gives_up gains are =
-    calls_lose old new left calls (Putting run) gains (search (rearranged_keeps, gives_up_rearranges)) gives_up.ends
-    (gives_up.under (ranges_of left) (ranges_of calls) (ranges_gain gains) are.under) are
+put_gives_up_calls gives_up gains are = calls_lose gains (search (rearranged_keeps, gives_up_rearranges)) gives_up.ends
+    (gives_up.under _ _ (ranges_gain gains) are.under) are
 
 -- ---- a put goes on
 
@@ -138,9 +127,7 @@ put_fills_calls {core} {run} {next} {bytes} {left} {calls} fills len_is gains ag
 pub put_writes_calls : {before after : CoreState} {run next : PutRun} {left calls nexts : List HoldingCall}
     → WritesOne before run after next → Gains left calls (Putting run) → Gains left nexts (Putting next)
     → AreCallsOf before.core calls → AreCallsOf after.core nexts
-put_writes_calls {before} {after} {run} {next} {left} {calls} {nexts} writes gains again are =
-    calls_stay before.core after.core nexts writes.rest
-    (outs_by_write (point_of before.core.pool.out before.disk) (point_of after.core.pool.out after.disk) writes.filled
-    writes.write writes.made).still (next_calls (Some (written writes.filled))
-    (written_of before.core run writes.filled writes.write writes.filled_is writes.write_is
-    (are.each (Putting run) (gains_item left calls (Putting run) gains))) gains (search arith) are)
+put_writes_calls {before} {after} {run} {left = left} {calls} {nexts} writes gains again are =
+    calls_stay before.core after.core nexts writes.rest (outs_by_write writes.made).still
+    (next_calls (Some (written writes.filled)) (written_of before.core run writes.filled writes.write writes.filled_is
+    writes.write_is (are.each (Putting run) (gains_item left calls (Putting run) gains))) gains (search arith) are)

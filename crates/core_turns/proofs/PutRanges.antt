@@ -1,6 +1,16 @@
 -- The ranges of the puts under way: it does not matter which comes first.
-use Rattle.core_turns.proofs.Words.{◌≡◌, ℕ, ◌+◌, List, [], ◌∷◌, ◌++◌, ◌∙◌, ap, arith, inl, inr, ⊎_elim, append-nil, Contains, ◌==◌, sum_by, filter_map-append, sum_by-append, Gains, PutRange, Blocks, AreUnderWay, put_run, AreClear, gains_item, gains_old, gains_cases, pairs_gain, pairs_lose, pairs_beside, clear_turned, PutRun, HoldingCall, Putting, ranges_of}
+use Rattle.core_turns.proofs.Words.{◌≡◌, ℕ, ◌+◌, List, [], ◌∷◌, ◌++◌, ◌∙◌, arith, inl, inr, ⊎_elim, append-nil, Contains, ◌==◌, sum_by, filter_map-append, sum_by-append, Gains, PutRange, Blocks, AreUnderWay, put_run, AreClear, gains_item, gains_old, gains_cases, pairs_gain, pairs_lose, pairs_beside, clear_turned, PutRun, HoldingCall, Putting, ranges_of}
 use Rattle.std.proofs.Common.{cond}
+
+-- A list that gains an item has its weight more.
+sum_gained : {T : Type 0} (weight : T → ℕ) {left one : List T} {x : T} → Gains left one x
+    → sum_by weight one ≡ sum_by weight left + sum_by weight (x ∷ [])
+sum_gained weight {x = x} there = rw (
+  there.is,
+  there.was,
+  sum_by-append weight there.before (x ∷ there.after),
+  sum_by-append weight there.before there.after,
+) (omega (arith, sum_by-append weight (x ∷ []) there.after))
 
 module _ {T : Type 0} (left one other : List T) (x : T) (there : Gains left one x) (here : Gains left other x) where
   -- Two lists that gained the same item contain the same,
@@ -10,16 +20,7 @@ module _ {T : Type 0} (left one other : List T) (x : T) (there : Gains left one 
 
   -- and their sums are the same.
   gains_sum : (weight : T → ℕ) → sum_by weight one ≡ sum_by weight other
-  gains_sum weight =
-      let one_is : sum_by weight one ≡ sum_by weight there.before + sum_by weight (x ∷ there.after) =
-      ap (sum_by weight) there.is ∙ sum_by-append weight there.before (x ∷ there.after) in
-      let other_is : sum_by weight other ≡ sum_by weight here.before + sum_by weight (x ∷ here.after) =
-      ap (sum_by weight) here.is ∙ sum_by-append weight here.before (x ∷ here.after) in
-      let left_one : sum_by weight left ≡ sum_by weight there.before + sum_by weight there.after =
-      ap (sum_by weight) there.was ∙ sum_by-append weight there.before there.after in
-      let left_other : sum_by weight left ≡ sum_by weight here.before + sum_by weight here.after =
-      ap (sum_by weight) here.was ∙ sum_by-append weight here.before here.after in
-      omega (arith, sum_by-append weight (x ∷ []) there.after, sum_by-append weight (x ∷ []) here.after)
+  gains_sum weight = omega (arith, sum_gained weight there, sum_gained weight here)
 
 -- Two puts have no sector in common,
 abbrev AreApart : PutRange → PutRange → Type 0
@@ -30,9 +31,9 @@ apart_turned : (one other : PutRange) → AreApart one other → AreApart other 
 apart_turned one other clear = search clear_turned
 
 -- A range may stand anywhere among those of the puts under way.
-pub under_moved : (blocks : Blocks) (left ranges moved : List PutRange) (range : PutRange) → Gains left ranges range
+pub under_moved : {blocks : Blocks} {left ranges moved : List PutRange} {range : PutRange} → Gains left ranges range
     → Gains left moved range → AreUnderWay blocks ranges → AreUnderWay blocks moved
-under_moved blocks left ranges moved range there here under = record {
+under_moved {left = left} {ranges} {moved} {range} there here under = record {
   each = λ one listed. under.each one (search gains_moved);
   apart = pairs_gain AreApart apart_turned left moved range here
       (λ one listed. pairs_beside AreApart apart_turned ranges left range one there under.apart listed)

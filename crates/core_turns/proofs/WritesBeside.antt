@@ -1,7 +1,9 @@
--- A write to sectors that no group asks for leaves the groups, and what images keep of them.
-use Rattle.core_turns.proofs.Words.{◌≡◌, ℕ, ◌≤◌, List, [], ◌∷◌, Option, Some, None, refl, ◌∙◌, ap, Disk, Lawful, TouchesOnly, IsWithin, count_of, Kept, Setting, point_of, IsSpare, IsRowOf, KeepsSince, touched_knows, touched_since, Stage, Lays, CommitRun, IsBeside, shown_at, shown_by, committing_knows, committing_touched, CoreState, at_disk, HoldingCall, CommitStands, GroupsStand, NoCommitStands, shown_in, shown_of}
+-- A write to sectors that no group asks for leaves the groups, what images keep of them, and all else that stands.
+use Rattle.core_turns.proofs.Words.{◌≡◌, ⊎_elim, ℕ, ◌≤◌, List, [], ◌∷◌, Option, Some, None, refl, ◌∙◌, ap, subst, Lawful, TouchesOnly, Gains, IsWithin, IsFrontOf, count_of, Kept, Map, Setting, point_of, IsSpare, IsRowOf, KeepsSince, gains_old, gains_cases, pairs_beside, touched_knows, touched_since, Stage, Lays, CommitRun, IsBeside, shown_at, shown_by, committing_knows, committing_touched, CoreState, at_disk, HoldingCall, AreBeside, AreCallsOf, CommitStands, GroupsStand, HoldsCall, IsCallOfCore, NoCommitStands, PutsSpare, Stands, actor_of, shown_in, shown_of}
 use Rattle.core_commit.specs.declared.commit_run.Stage.TheVariants.{Signs}
-use Rattle.core_turns.proofs.StandFrames.{commit_still, lies_still, out_leaves}
+use Rattle.core_turns.proofs.Calls.{beside_turn}
+use Rattle.core_turns.proofs.Frames.{AreOff, IsCallOff, Leaves, OnlyOut, call_stays, leaves_touched}
+use Rattle.core_turns.proofs.StandFrames.{commit_still, lies_still, out_leaves, stands_anew}
 
 -- Of one group that was begun images can show what its commit has come to.
 pub shown_one : (next : Kept) (stage : Stage) → shown_in (next ∷ []) stage ≡ shown_at next stage
@@ -10,8 +12,7 @@ shown_one next Signs = refl
 
 -- These sectors are asked for by no group that stands, and a write there may come between the steps of a commit.
 pub record AreSpare (P : ℕ → ℕ → Type 0) (setting : Setting) (last : Kept) (begun : List Kept)
-    (calls : List HoldingCall)
-    (state : CoreState) : Type 0 where
+    (calls : List HoldingCall) (state : CoreState) : Type 0 where
   pub alone : NoCommitStands setting last begun state → (device device_sector : ℕ) → P device device_sector
       → IsSpare setting last begun device device_sector
   pub shown : (commit : CommitRun) (groups : CommitStands setting last begun calls commit state)
@@ -20,37 +21,40 @@ pub record AreSpare (P : ℕ → ℕ → Type 0) (setting : Setting) (last : Kep
   pub beside : (commit : CommitRun) (groups : CommitStands setting last begun calls commit state)
       → IsBeside setting last groups.next P
 
-module _ {before : CoreState} (out : ℕ) (disk : Disk) (P : ℕ → ℕ → Type 0) (touched : TouchesOnly P before.disk disk)
-    (within : IsWithin before.core.pool.out out) (lawful : Lawful before.disk)
-    (few : count_of before.core.pool.out ≤ before.core.pool.uber.parity) (setting : Setting) (last : Kept)
-    (begun : List Kept) (calls : List HoldingCall) (spare : AreSpare P setting last begun calls before) where
-  -- the state after the write
-  abbrev written : CoreState
-  written = at_disk (record before.core { pool = record before.core.pool { out = out } }) disk
+-- the state after a write, as its turn says
+abbrev pub written_by : CoreState → CoreState → CoreState
+written_by before after =
+    at_disk (record before.core { pool = record before.core.pool { out = after.core.pool.out } }) after.disk
 
+module _ {before : CoreState} (after : CoreState) {P : ℕ → ℕ → Type 0} (touched : TouchesOnly P before.disk after.disk)
+    (within : IsWithin before.core.pool.out after.core.pool.out) (lawful : Lawful before.disk)
+    (few : count_of before.core.pool.out ≤ before.core.pool.uber.parity) {setting : Setting} {last : Kept}
+    {begun : List Kept} {calls : List HoldingCall} (spare : AreSpare P setting last begun calls before) where
   -- What is known of the groups stays,
-  pub groups_written : (commit : Option CommitRun) → Lawful disk → GroupsStand setting last begun calls commit before
-      → GroupsStand setting last begun calls commit written
-  groups_written None still_lawful groups = record {
+  groups_written : (nexts : List HoldingCall) (commit : Option CommitRun) → Lawful after.disk
+      → ((group : Kept) → PutsSpare before calls group → PutsSpare before nexts group)
+      → GroupsStand setting last begun calls commit before
+      → GroupsStand setting last begun nexts commit (written_by before after)
+  groups_written nexts None still_lawful fewer groups = record {
     knows = touched_knows P touched setting last begun lawful (spare.alone groups) groups.knows;
     whole = λ few_after. groups.whole few;
   }
-  groups_written (Some commit) still_lawful groups = record {
+  groups_written nexts (Some commit) still_lawful fewer groups = record {
     next = groups.next;
     begun_is = groups.begun_is;
     of = search (commit_still, out_leaves);
     come = committing_touched setting last groups.next P commit (point_of before.core.pool.out before.disk)
-        (point_of out disk) (spare.beside commit groups) touched within still_lawful groups.come;
+        (point_of after.core.pool.out after.disk) (spare.beside commit groups) touched within still_lawful groups.come;
     lies = search (lies_still, out_leaves);
     kept = groups.kept;
-    spared = groups.spared;
+    spared = fewer groups.next groups.spared;
   }
 
   -- and what each image keeps.
   pub since_written : (commit : Option CommitRun) (groups : List Kept) (time : ℕ)
       → IsRowOf groups last (shown_of begun commit)
       → GroupsStand setting last begun calls commit before → KeepsSince setting groups time before.disk
-      → KeepsSince setting groups time disk
+      → KeepsSince setting groups time after.disk
   since_written None groups time row stands kept =
       touched_since P touched setting last begun lawful (spare.alone stands) stands.knows groups time row kept
   since_written (Some commit) groups time row stands kept =
@@ -58,3 +62,30 @@ module _ {before : CoreState} (out : ℕ) (disk : Disk) (P : ℕ → ℕ → Typ
       (search committing_knows) groups time
       (rw (← ap (λ (l : List Kept). shown_in l commit.stage) stands.begun_is ∙ shown_one stands.next commit.stage) row)
       kept
+
+  -- All stands still, where the call that writes has come further and others' places are off the write.
+  pub writes_stand : {contents : ℕ → List ℕ} {map : Map} {commit : Option CommitRun} {left nexts : List HoldingCall}
+      {call next : HoldingCall} → OnlyOut before.core after.core → Lawful after.disk
+      → IsFrontOf before.core.pool.uber.reflow before.core.pool.done → AreOff P before.core
+      → ((other : HoldingCall) → AreBeside call other → IsCallOfCore before.core other
+      → IsCallOff P before.core.pool.uber.reflow before.core.pool.done other)
+      → Gains left calls call → Gains left nexts next
+      → ((group : Kept) → PutsSpare before calls group → PutsSpare before nexts group)
+      → HoldsCall (written_by before after) (contents (actor_of next)) next → AreCallsOf before.core calls
+      → Stands setting last begun map contents calls commit before
+      → Stands setting last begun map contents nexts commit after
+  writes_stand {contents} {commit = commit} {left} {nexts} {call} {next} same still_lawful front off calls_off gains
+      again fewer holds are stands =
+      rw same (stands_anew P before (written_by before after) leaves off refl touched.later
+      (groups_written nexts commit still_lawful fewer stands.groups) (fewer last stands.spared)
+      (λ other listed. ⊎_elim
+      (λ is. subst (λ (c : HoldingCall). HoldsCall (written_by before after) (contents (actor_of c)) c) is holds)
+      (λ rest.
+      let was = gains_old left calls call other gains rest in
+      let beside = pairs_beside AreBeside beside_turn calls left call other gains are.beside rest in
+      call_stays P (contents (actor_of other)) before (written_by before after) other leaves
+      (calls_off other beside (are.each other was)) (stands.each other was))
+      (gains_cases left nexts next other again listed)) stands)
+    where
+      leaves : Leaves P before (written_by before after)
+      leaves = leaves_touched P before (written_by before after) front refl within touched

@@ -6,12 +6,8 @@ returns-clause-goes_on g c = attach_goes _ _ c.args.run c.step_attach.result c.s
     (g.met.B.Bank.lawful c.args.bank.now) c.requires.of c.step_attach.ensures.steps
 
 pub returns-clause-out : goal.returns-clause-out
-returns-clause-out g c = (attach_goes _ _ c.args.run c.step_attach.result c.step_attach.ensures.is
-    (g.met.B.Bank.lawful c.args.bank.now) c.requires.of c.step_attach.ensures.steps).out
+returns-clause-out g c = (returns-clause-goes_on g c).out
 
 pub returns-clause-bank : goal.returns-clause-bank
-returns-clause-bank g c = attach_bank _ _
-    (attach_goes _ _ c.args.run c.step_attach.result c.step_attach.ensures.is (g.met.B.Bank.lawful c.args.bank.now)
-    c.requires.of c.step_attach.ensures.steps)
-    c.requires.bank
+returns-clause-bank g c = attach_bank _ _ (returns-clause-goes_on g c) c.requires.bank
     (attach_there _ _ c.args.run c.step_attach.result c.requires.of c.requires.there c.step_attach.ensures.steps)

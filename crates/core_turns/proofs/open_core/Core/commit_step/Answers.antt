@@ -6,11 +6,7 @@ returns-clause-goes_on g c = commit_goes _ _ c.args.run c.step_commit.result
     c.step_commit.ensures.is (g.met.B.Bank.lawful c.args.bank.now) c.requires.of c.step_commit.ensures.steps
 
 pub returns-clause-out : goal.returns-clause-out
-returns-clause-out g c = (commit_goes _ _ c.args.run c.step_commit.result
-    c.step_commit.ensures.is (g.met.B.Bank.lawful c.args.bank.now) c.requires.of c.step_commit.ensures.steps).out
+returns-clause-out g c = (returns-clause-goes_on g c).out
 
 pub returns-clause-bank : goal.returns-clause-bank
-returns-clause-bank g c = turn_bank _ _
-    (commit_goes _ _ c.args.run c.step_commit.result c.step_commit.ensures.is (g.met.B.Bank.lawful c.args.bank.now)
-    c.requires.of c.step_commit.ensures.steps)
-    c.requires.bank
+returns-clause-bank g c = turn_bank _ _ (returns-clause-goes_on g c) c.requires.bank

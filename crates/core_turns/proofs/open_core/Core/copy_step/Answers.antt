@@ -7,7 +7,4 @@ returns-clause-goes_on g c = copy_goes _ _ c.args.round c.step_copy.result c.ste
     (g.met.B.Bank.lawful c.args.bank.now) c.requires.of c.step_copy.ensures.steps
 
 pub returns-clause-bank : goal.returns-clause-bank
-returns-clause-bank g c = turn_bank _ _
-    (copy_goes _ _ c.args.round c.step_copy.result c.step_copy.ensures.is
-    (g.met.B.Bank.lawful c.args.bank.now) c.requires.of c.step_copy.ensures.steps)
-    c.requires.bank
+returns-clause-bank g c = turn_bank _ _ (returns-clause-goes_on g c) c.requires.bank

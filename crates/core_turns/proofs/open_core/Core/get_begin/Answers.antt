@@ -1,4 +1,4 @@
-use Rattle.core_turns.proofs.Words.{sym, ap, subst, Core, HasBankOf}
+use Rattle.core_turns.proofs.Words.{ap, Core}
 use Rattle.core_turns.proofs.GetTurns.{get_of, begins_rest, begins_holds}
 use Rattle.core_turns.proofs.GetLaws.{get_finds}
 use Rattle.core_turns.proofs.open_core.Core.get_begin.Goals as goal
@@ -11,14 +11,10 @@ pub returns-clause-others : goal.returns-clause-others
 returns-clause-others c = λ run of.
     let rest = begins_rest c.args.self.now c.begin_get.new.self c.args.actor c.args.id c.args.kind c.begin_get.result
     c.begin_get.ensures in
-    get_of c.args.self.now c.begin_get.new.self run (ap (λ (core : Core). core.pool.uber) rest)
-    (ap (λ (core : Core). core.begun) rest)
+    get_of {old = c.args.self.now} (ap (λ (core : Core). core.pool.uber) rest) (ap (λ (core : Core). core.begun) rest)
     (begins_holds c.args.self.now c.begin_get.new.self c.args.actor c.args.id c.args.kind c.begin_get.result run.hold
-    c.begin_get.ensures of.holds)
-    of
+    c.begin_get.ensures of.holds) of
 
 pub returns-clause-bank : goal.returns-clause-bank
-returns-clause-bank c = λ disk bank. subst (λ (core : Core). HasBankOf core disk)
-    (sym (begins_rest c.args.self.now c.begin_get.new.self c.args.actor c.args.id c.args.kind c.begin_get.result
-    c.begin_get.ensures))
-    bank
+returns-clause-bank c = λ disk bank. rw (begins_rest c.args.self.now c.begin_get.new.self c.args.actor c.args.id
+    c.args.kind c.begin_get.result c.begin_get.ensures) bank

@@ -1,5 +1,5 @@
-use Rattle.core_turns.proofs.Words.{arith, ◌+◌, ◌-◌, ◌<◌, sym, ◌∙◌, subst, None, true≢false, common_steps, allocated_of, PutRun, More, Core, HasTooManyOut, BeginsPutTurn, LeavesBlocks}
-use Rattle.core_turns.proofs.Cores.{core_with}
+use Rattle.core_turns.proofs.Words.{arith, ◌+◌, ◌-◌, ◌<◌, common_steps, allocated_of}
+use Rattle.core_turns.proofs.Cores.{few_out}
 use Rattle.core_turns.proofs.PutTurns.{put_begins, put_begins_core, put_dropped, put_refused}
 use Rattle.core_turns.proofs.open_core.Core.put_begin.Goals as goal
 
@@ -14,69 +14,30 @@ hold_range-requires-clause-end c =
     omega (arith, last.below, begins.taken.capacity, small, some)
 
 pub returns-in-Err : goal.returns-in-Err
-returns-in-Err c =
-    let core = core_with c.self.inside.uber c.self.inside.blocks c.self.inside.out c.self.inside.done
-    c.self.inside.locks
-    c.self.inside.begun c.self.inside.committing c.self.inside.copying c.self.inside.attaching c.self.inside.reach in
-    let few : HasTooManyOut core → ⊥ = subst (λ (core : Core). HasTooManyOut core → ⊥) (sym c.self.view_is)
-    (λ many. true≢false (sym (c.has_too_many_out.ensures.1 many) ∙ c.if-has_too_many_out.false)) in
-    record {
-      begins = subst (λ (old : Core). BeginsPutTurn old
-          (record core { pool = record core.pool { blocks = c.begin_put.new.self } }) c.args.actor c.args.id c.args.len
-          c.refusal.result) c.self.view_is
-          (put_refused core c.args.actor c.args.id c.args.len c.begin_put.new.self c.in-Err.refused c.refusal.result
-          c.self.invariant few c.in-Err.ensures.err c.in-Err.ensures.under_err c.begin_put.ensures.kept
-          c.in-Err.ensures.cause c.refusal.ensures);
-    }
+returns-in-Err c = record {
+  begins = rw (← c.self.view_is, c.refusal.ensures) (put_refused c.args.actor c.args.id c.args.len c.in-Err.refused
+      c.self.invariant (few_out c.self.view_is c.has_too_many_out.ensures.1 c.if-has_too_many_out.false)
+      c.in-Err.ensures.err c.in-Err.ensures.under_err c.begin_put.ensures.kept c.in-Err.ensures.cause);
+}
 
 pub returns-in_default : goal.returns-in_default
-returns-in_default c =
-    let core = core_with c.self.inside.uber c.self.inside.blocks c.self.inside.out c.self.inside.done
-    c.self.inside.locks
-    c.self.inside.begun c.self.inside.committing c.self.inside.copying c.self.inside.attaching c.self.inside.reach in
-    let new = record core { pool = record core.pool { blocks = c.give_up.new.self }; holds = c.hold_range.new.locks } in
-    record {
-      begins = (
-        λ many. true≢false (sym (c.has_too_many_out.ensures.1 many) ∙ c.if-has_too_many_out.false),
-        subst (λ (old : Core). LeavesBlocks old new) c.self.view_is
-            (put_dropped core c.begin_put.new.self c.give_up.new.self c.in-Ok.range c.hold_range.new.locks
-            c.in_default.ensures c.in-Ok.ensures.begins c.in-Ok.ensures.under c.begin_put.ensures.kept
-            c.in-Ok.ensures.spares
-            c.give_up.ensures.parity c.give_up.ensures.births c.give_up.ensures.entries c.give_up.ensures.dropped
-            c.give_up.ensures.under c.give_up.ensures.kept),
-      );
-    }
+returns-in_default c = record {
+  begins = rw (← c.self.view_is) (
+    few_out c.self.view_is c.has_too_many_out.ensures.1 c.if-has_too_many_out.false,
+    put_dropped c.in-Ok.ensures.begins c.in-Ok.ensures.under c.begin_put.ensures.kept c.in-Ok.ensures.spares
+        c.in_default.ensures c.give_up.ensures.parity c.give_up.ensures.births c.give_up.ensures.entries
+        c.give_up.ensures.dropped c.give_up.ensures.under c.give_up.ensures.kept,
+  );
+}
 
 pub invariant_of-self-2 : goal.invariant_of-self-2
-invariant_of-self-2 c =
-    let at = c.self.inside in
-    put_begins_core (core_with at.uber at.blocks at.out at.done at.locks at.begun at.committing at.copying at.attaching
-    at.reach) c.args.actor c.in-Ok.range
-    c.begin_put.new.self c.in-Some.hold c.hold_range.new.locks c.self.invariant c.in-Ok.ensures.begins
-    c.begin_put.ensures.stays c.in-Some.ensures.0 c.in-Some.ensures.1
+invariant_of-self-2 c = put_begins_core c.self.invariant c.in-Ok.ensures.begins c.begin_put.ensures.stays
+    c.in-Some.ensures.0 c.in-Some.ensures.1
 
 pub returns : goal.returns
-returns c =
-    let core = core_with c.self.inside.uber c.self.inside.blocks c.self.inside.out c.self.inside.done
-    c.self.inside.locks
-    c.self.inside.begun c.self.inside.committing c.self.inside.copying c.self.inside.attaching c.self.inside.reach in
-    let few : HasTooManyOut core → ⊥ = subst (λ (core : Core). HasTooManyOut core → ⊥) (sym c.self.view_is)
-    (λ many. true≢false (sym (c.has_too_many_out.ensures.1 many) ∙ c.if-has_too_many_out.false)) in
-    let run : PutRun = record {
-      hold = c.in-Some.hold;
-      range = c.in-Ok.range;
-      len = c.args.len;
-      reflow = c.reflow.result;
-      done = c.self.inside.done;
-      filled = None;
-    } in
-    record {
-      begins = subst (λ (old : Core). BeginsPutTurn old
-          (record core { pool = record core.pool { blocks = c.begin_put.new.self }; holds = c.hold_range.new.locks })
-          c.args.actor c.args.id c.args.len (More run)) c.self.view_is
-          (put_begins core c.args.actor c.args.id c.args.len c.begin_put.new.self c.in-Ok.range c.in-Some.hold
-          c.hold_range.new.locks c.reflow.result c.self.invariant few c.requires.some c.requires.few
-          c.in-Ok.ensures.range c.in-Ok.ensures.begins c.in-Ok.ensures.under_way c.in-Ok.ensures.under
-          c.begin_put.ensures.kept
-          c.in-Ok.ensures.spares c.in-Some.ensures.0 c.in-Some.ensures.1 c.reflow.ensures.value);
-    }
+returns c = record {
+  begins = rw (← c.self.view_is) (put_begins c.in-Ok.ensures.begins c.in-Ok.ensures.under c.begin_put.ensures.kept
+      c.in-Ok.ensures.spares c.self.invariant
+      (few_out c.self.view_is c.has_too_many_out.ensures.1 c.if-has_too_many_out.false) c.requires.some c.requires.few
+      c.in-Ok.ensures.range c.in-Ok.ensures.under_way c.in-Some.ensures.0 c.in-Some.ensures.1 c.reflow.ensures.value);
+}

@@ -1,24 +1,14 @@
-use Rattle.core_turns.proofs.Words.{◌≡◌, sym, ap, subst, arith, Reflow, Core, HasBankOf, IsGetOf}
-use Rattle.core_turns.proofs.Cores.{bank_has, bank_within, core_out, core_with}
+use Rattle.core_turns.proofs.Words.{◌≡◌, ap, arith, Reflow}
+use Rattle.core_turns.proofs.Cores.{bank_has, bank_within, core_out}
 use Rattle.core_turns.proofs.GetTurns.{read_ended}
 use Rattle.core_turns.proofs.open_core.Core.read_get.Goals as goal
 
 pub step-requires-clause-bank : goal.step-requires-clause-bank
-step-requires-clause-bank g c =
-    let at = c.self.inside in
-    let core = core_with at.uber at.blocks at.out at.done at.locks at.begun at.committing at.copying at.attaching
-    at.reach in
-    bank_has at.uber c.reflow-reflow.result at.out (g.B.Bank.disk c.args.bank.now) c.reflow-reflow.ensures.value
-    (bank_within core (g.B.Bank.disk c.args.bank.now) c.self.invariant
-    (subst (λ (core : Core). HasBankOf core (g.B.Bank.disk c.args.bank.now)) (sym c.self.view_is) c.requires.bank))
+step-requires-clause-bank g c = bank_has c.self.inside.uber c.reflow-reflow.ensures.value
+    (bank_within _ (g.B.Bank.disk c.args.bank.now) c.self.invariant (rw (← c.self.view_is) at c.requires.bank))
 
 pub invariant_of-self : goal.invariant_of-self
-invariant_of-self g c =
-    let at = c.self.inside in
-    read_ended (core_with at.uber at.blocks at.out at.done at.locks at.begun at.committing at.copying at.attaching
-    at.reach) c.args.run.now c.end.new.self
-    c.self.invariant (subst (λ (core : Core). IsGetOf core c.args.run.now) (sym c.self.view_is) c.requires.of)
-    c.end.ensures.ends
+invariant_of-self g c = read_ended c.self.invariant (rw (← c.self.view_is) at c.requires.of) c.end.ensures.ends
 
 pub invariant_of-self-2 : goal.invariant_of-self-2
 invariant_of-self-2 g c =

@@ -1,63 +1,40 @@
-use Rattle.core_turns.proofs.Words.{sym, subst, Joins, Core, IsAttachRunOf}
 use Rattle.core_turns.proofs.AttachTurns.{join_drops_core, join_drops_more, join_goes_core, join_goes_more, join_joins_core, join_joins_more}
-use Rattle.core_turns.proofs.Cores.{core_with}
 use Rattle.core_turns.proofs.open_core.Core.step_join.Goals as goal
 
 pub invariant_of-self : goal.invariant_of-self
 invariant_of-self g c =
-    let at = c.self.inside in
-    let core = core_with at.uber at.blocks at.out at.done at.locks at.begun at.committing at.copying at.attaching
-    at.reach in
-    let of = subst (λ (core : Core). IsAttachRunOf core (Joins c.args.join)) (sym c.self.view_is) c.requires.of in
-    join_goes_core core c.args.join c.step.new.out (g.B.Bank.disk c.args.bank.now) (g.B.Bank.disk c.step.new.bank)
-    c.self.invariant of.0.of of.1 c.in-GoesOn.join c.in-GoesOn.ensures.steps c.in-GoesOn.ensures.fits.below
+    let of = rw (← c.self.view_is) at c.requires.of in
+    join_goes_core _ c.args.join _ _ _ c.self.invariant of.0.of of.1 c.in-GoesOn.join c.in-GoesOn.ensures.steps
+    c.in-GoesOn.ensures.fits.below
 
 pub invariant_of-self-in-Joined : goal.invariant_of-self-in-Joined
 invariant_of-self-in-Joined g c =
-    let at = c.self.inside in
-    let core = core_with at.uber at.blocks at.out at.done at.locks at.begun at.committing at.copying at.attaching
-    at.reach in
-    let of = subst (λ (core : Core). IsAttachRunOf core (Joins c.args.join)) (sym c.self.view_is) c.requires.of in
-    join_joins_core core c.args.join c.step.new.out (g.B.Bank.disk c.args.bank.now) (g.B.Bank.disk c.step.new.bank)
-    c.self.invariant of.0.of of.1 c.in-Joined.run' c.in-Joined.ensures.steps c.in-Joined.ensures.fits.below
+    let of = rw (← c.self.view_is) at c.requires.of in
+    join_joins_core _ c.args.join _ _ _ c.self.invariant of.0.of of.1 c.in-Joined.run' c.in-Joined.ensures.steps
+    c.in-Joined.ensures.fits.below
 
 pub invariant_of-self-in-Dropped : goal.invariant_of-self-in-Dropped
 invariant_of-self-in-Dropped g c =
-    let at = c.self.inside in
-    let core = core_with at.uber at.blocks at.out at.done at.locks at.begun at.committing at.copying at.attaching
-    at.reach in
-    let of = subst (λ (core : Core). IsAttachRunOf core (Joins c.args.join)) (sym c.self.view_is) c.requires.of in
-    join_drops_core core c.args.join c.step.new.out (g.B.Bank.disk c.args.bank.now) (g.B.Bank.disk c.step.new.bank)
-    c.self.invariant of.0.of of.1 c.in-Dropped.run' c.in-Dropped.why c.in-Dropped.ensures.steps
-    c.in-Dropped.ensures.fits.below
+    let of = rw (← c.self.view_is) at c.requires.of in
+    join_drops_core _ c.args.join _ _ _ c.self.invariant of.0.of of.1 c.in-Dropped.run' c.in-Dropped.why
+    c.in-Dropped.ensures.steps c.in-Dropped.ensures.fits.below
 
 pub returns-in-GoesOn-clause-of : goal.returns-in-GoesOn-clause-of
 returns-in-GoesOn-clause-of g c =
-    let at = c.self.inside in
-    let core = core_with at.uber at.blocks at.out at.done at.locks at.begun at.committing at.copying at.attaching
-    at.reach in
-    let of = subst (λ (core : Core). IsAttachRunOf core (Joins c.args.join)) (sym c.self.view_is) c.requires.of in
-    join_goes_more core c.args.join c.step.new.out (g.B.Bank.disk c.args.bank.now) (g.B.Bank.disk c.step.new.bank)
-    c.self.invariant of.0.of of.1 c.in-GoesOn.join of.0.under_way c.requires.there c.in-GoesOn.ensures.steps
+    let of = rw (← c.self.view_is) at c.requires.of in
+    join_goes_more _ c.args.join _ _ _ c.self.invariant of.0.of of.1 c.in-GoesOn.join of.0.under_way c.requires.there
+    c.in-GoesOn.ensures.steps
 
 pub returns-in-Joined-clause-of : goal.returns-in-Joined-clause-of
-returns-in-Joined-clause-of g c =
-    let at = c.self.inside in
-    let core = core_with at.uber at.blocks at.out at.done at.locks at.begun at.committing at.copying at.attaching
-    at.reach in
-    let of = subst (λ (core : Core). IsAttachRunOf core (Joins c.args.join)) (sym c.self.view_is) c.requires.of in (
-      join_joins_more core c.args.join c.step.new.out (g.B.Bank.disk c.args.bank.now) (g.B.Bank.disk c.step.new.bank)
-          c.self.invariant of.0.of of.1 c.in-Joined.run' of.0.under_way c.in-Joined.ensures.steps,
-      tt,
-    )
+returns-in-Joined-clause-of g c = let of = rw (← c.self.view_is) at c.requires.of in (
+  join_joins_more _ c.args.join _ _ _ c.self.invariant of.0.of of.1 c.in-Joined.run' of.0.under_way
+      c.in-Joined.ensures.steps,
+  tt,
+)
 
 pub returns-in-Dropped-clause-of : goal.returns-in-Dropped-clause-of
-returns-in-Dropped-clause-of g c =
-    let at = c.self.inside in
-    let core = core_with at.uber at.blocks at.out at.done at.locks at.begun at.committing at.copying at.attaching
-    at.reach in
-    let of = subst (λ (core : Core). IsAttachRunOf core (Joins c.args.join)) (sym c.self.view_is) c.requires.of in (
-      join_drops_more core c.args.join c.step.new.out (g.B.Bank.disk c.args.bank.now) (g.B.Bank.disk c.step.new.bank)
-          c.self.invariant of.0.of of.1 c.in-Dropped.run' c.in-Dropped.why of.0.under_way c.in-Dropped.ensures.steps,
-      tt,
-    )
+returns-in-Dropped-clause-of g c = let of = rw (← c.self.view_is) at c.requires.of in (
+  join_drops_more _ c.args.join _ _ _ c.self.invariant of.0.of of.1 c.in-Dropped.run' c.in-Dropped.why of.0.under_way
+      c.in-Dropped.ensures.steps,
+  tt,
+)
