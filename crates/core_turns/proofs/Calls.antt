@@ -1,5 +1,6 @@
 -- Calls under way that come, go on and end.
-use Rattle.core_turns.proofs.Words.{◌≡◌, ⊎_elim, List, [], ◌∷◌, sym, ◌∙◌, ap, Contains, filter_map-append, Hold, EndsHold, Overlaps, Gains, contains_head, contains_tail, contains_cases, contains_none, AreUnderWay, gains_old, gains_cases, pairs_gain, pairs_lose, pairs_beside, GetRun, PutRun, Core, HoldingCall, Putting, Reading, Copying, hold_of_call, range_in, ranges_of, IsCallOfCore, HaveNoneInCommon, AreBeside, AreCallsOf}
+use Rattle.core_turns.proofs.Words.{◌≡◌, arith, ⊎_elim, List, [], ◌∷◌, Contains, filter_map-append, Hold, EndsHold, Overlaps, Gains, contains_head, contains_tail, contains_cases, contains_none, AreUnderWay, gains_old, pairs_gain, pairs_lose, pairs_beside, GetRun, PutRun, Core, HoldingCall, Putting, Reading, Copying, hold_of_call, ranges_of, IsCallOfCore, HaveNoneInCommon, AreBeside, AreCallsOf}
+use Rattle.core_turns.proofs.TakenBack.{each_gained}
 use Rattle.core_turns.proofs.Frames.{KeepsCalls, call_of_stays, hold_listed, ends_other}
 
 -- A hold that overlaps another is overlapped by it.
@@ -8,15 +9,11 @@ turned one other overlaps = search
 
 -- Beside each other are calls in either order.
 none_in_common_turn : (one other : HoldingCall) → HaveNoneInCommon one other → HaveNoneInCommon other one
-none_in_common_turn (Putting run) (Putting other) clear = λ sector there here. clear sector here there
-none_in_common_turn (Putting run) (Reading other) clear = λ sector there here. clear sector here there
-none_in_common_turn (Reading run) (Putting other) clear = λ sector there here. clear sector here there
 none_in_common_turn (Reading run) (Reading other) clear = clear
 none_in_common_turn (Copying run) (Copying other) clear = clear
-none_in_common_turn (Copying run) (Putting other) clear = search turned
-none_in_common_turn (Copying run) (Reading other) clear = λ overlaps. clear (turned other.hold run.hold overlaps)
-none_in_common_turn (Putting run) (Copying other) clear = λ overlaps. clear (turned other.hold run.hold overlaps)
-none_in_common_turn (Reading run) (Copying other) clear = λ overlaps. clear (turned other.hold run.hold overlaps)
+none_in_common_turn (Copying run) other clear = search turned
+none_in_common_turn run (Copying other) clear = search turned
+none_in_common_turn run other clear = λ sector there here. clear sector here there
 
 pub beside_turn : (one other : HoldingCall) → AreBeside one other → AreBeside other one
 beside_turn one other beside = record {
@@ -40,20 +37,15 @@ range_listed (call ∷ calls) run listed = ⊎_elim
 -- and a read has none.
 pub ranges_read : {left calls : List HoldingCall} {run : GetRun} → Gains left calls (Reading run)
     → ranges_of calls ≡ ranges_of left
-ranges_read {run = run} gains = ap ranges_of gains.is
-    ∙ filter_map-append range_in gains.before (Reading run ∷ gains.after)
-    ∙ sym (filter_map-append range_in gains.before gains.after) ∙ ap ranges_of (sym gains.was)
+ranges_read gains = search (filter_map-append, arith)
 
 -- A call comes.
 pub calls_gain : {old new : Core} {left calls : List HoldingCall} {call : HoldingCall} → Gains left calls call
     → KeepsCalls old new → ((hold : Hold) → Contains old.holds hold → Contains new.holds hold)
     → AreUnderWay new.pool.blocks (ranges_of calls) → IsCallOfCore new call
     → ((other : HoldingCall) → Contains left other → AreBeside call other) → AreCallsOf old left → AreCallsOf new calls
-calls_gain {left = left} {calls} {call} gains keeps kept under of beside are = record {
-  each = λ other listed. ⊎_elim
-      (λ (same : call ≡ other). rw same at of)
-      (λ was. let old_of = are.each other was in
-      search (call_of_stays, hold_listed)) (gains_cases left calls call other gains listed);
+calls_gain gains keeps kept under of beside are = record {
+  each = each_gained gains of (λ other was. let old_of = are.each other was in search (call_of_stays, hold_listed));
   under = under;
   beside = search (pairs_gain, beside_turn);
 }
@@ -61,8 +53,7 @@ calls_gain {left = left} {calls} {call} gains keeps kept under of beside are = r
 -- A call ends, and its hold with it.
 pub calls_lose : {old new : Core} {left calls : List HoldingCall} {call : HoldingCall} → Gains left calls call
     → KeepsCalls old new → EndsHold old.holds new.holds (hold_of_call call)
-    → AreUnderWay new.pool.blocks (ranges_of left)
-    → AreCallsOf old calls → AreCallsOf new left
+    → AreUnderWay new.pool.blocks (ranges_of left) → AreCallsOf old calls → AreCallsOf new left
 calls_lose {old} {new} {left} {calls} {call} gains keeps ends under are = record {
   each = λ other listed. let of = are.each other (gains_old left calls call other gains listed) in
       call_of_stays old new other keeps
@@ -78,10 +69,7 @@ pub calls_swap : {core : Core} {left calls nexts : List HoldingCall} {call next 
     → ((other : HoldingCall) → HaveNoneInCommon call other → HaveNoneInCommon next other) → IsCallOfCore core next
     → AreUnderWay core.pool.blocks (ranges_of nexts) → AreCallsOf core calls → AreCallsOf core nexts
 calls_swap {left = left} {calls} {nexts} {call} {next} gains again hold apart of under are = record {
-  each = λ other listed. ⊎_elim
-      (λ (same : next ≡ other). rw same at of)
-      (λ was. are.each other (gains_old left calls call other gains was))
-      (gains_cases left nexts next other again listed);
+  each = each_gained again of (λ other was. are.each other (gains_old left calls call other gains was));
   under = under;
   beside = pairs_gain AreBeside beside_turn left nexts next again
       (λ other listed.

@@ -1,5 +1,5 @@
 -- What each turn of a copy does to the bank and the devices.
-use Rattle.core_turns.proofs.Words.{◌≡◌, ⊎_elim, ℕ, sym, ap, subst, Lawful, CopyRound, Rests, Copies, Commits, Turn, More, Busy, Done, Core, CoreState, IsCore, BeginsRound, IsRoundOf, StepsCopy, TurnGoesOn}
+use Rattle.core_turns.proofs.Words.{◌≡◌, ⊎_elim, ℕ, ap, Lawful, CopyRound, Rests, Copies, Commits, Turn, More, Done, Core, CoreState, IsCore, BeginsRound, IsRoundOf, StepsCopy, TurnGoesOn}
 use Rattle.core_state.specs.declared.answer.Answer.TheVariants as answer
 use Rattle.core_turns.proofs.CommitGoes.{commit_goes, turn_nowhere, turn_still}
 use Rattle.core_turns.proofs.JobTurns.{job_turn}
@@ -15,20 +15,14 @@ module _ (before after : CoreState) where
   round_goes : (actor : ℕ) (turn : Turn CopyRound) → BeginsRound old new actor turn → after.disk ≡ before.disk
       → TurnGoesOn before after
   round_goes actor (More (Rests whose made)) begins disk = absurd begins
-  round_goes actor (More (Copies run)) begins disk = turn_still before after (cc) (cc) (cc) disk
-  round_goes actor (More (Commits run)) begins disk = turn_still before after (cc) (cc) (cc) disk
-  round_goes actor (Busy by) begins disk = turn_still before after (cc) (cc) (cc) disk
-  round_goes actor (Done given) begins disk = turn_still before after (ap (λ (c : Core). c.pool.uber) begins.1)
-      (ap (λ (c : Core). c.reach) begins.1) (ap (λ (c : Core). c.pool.out) begins.1) disk
+  round_goes actor (Done given) begins disk = let same = begins.1 in turn_still before after (cc) (cc) (cc) disk
+  round_goes actor other begins disk = turn_still before after (cc) (cc) (cc) disk
 
   -- So does each turn of a copy what each turn does.
   pub copy_goes : (round : CopyRound) (turn : Turn CopyRound) → IsCore old → Lawful before.disk
       → IsRoundOf old round → StepsCopy before round after turn → TurnGoesOn before after
   copy_goes (Rests was made) (More (Rests actor next)) is lawful of steps = rw steps.2 (turn_nowhere before)
-  copy_goes (Rests actor made) (More (Copies run)) is lawful of steps =
-      round_goes actor (More (Copies run)) steps.0 steps.1
-  copy_goes (Rests actor made) (More (Commits run)) is lawful of steps =
-      round_goes actor (More (Commits run)) steps.0 steps.1
+  copy_goes (Rests actor made) (More begun) is lawful of steps = round_goes actor (More begun) steps.0 steps.1
   copy_goes (Rests actor made) (Done given) is lawful of steps = rw steps.1 (turn_nowhere before)
   copy_goes (Copies run) (More (Copies next)) is lawful of steps = search job_turn
   copy_goes (Copies run) (More (Rests actor next)) is lawful of steps = ⊎_elim
@@ -40,6 +34,5 @@ module _ (before after : CoreState) where
       commit_goes before after run (More next) is lawful of steps
   copy_goes (Commits run) (More (Rests actor made)) is lawful of steps =
       commit_goes before after run (Done (answer.Synced steps.1.0)) is lawful of steps.1.2
-  copy_goes (Commits run) (Done given) is lawful of steps =
-      subst (TurnGoesOn before) (sym steps.2) (turn_nowhere before)
+  copy_goes (Commits run) (Done given) is lawful of steps = rw steps.2 (turn_nowhere before)
   copy_goes round turn is lawful of steps = absurd steps

@@ -1,5 +1,5 @@
 -- Which calls are under way over each turn of a read.
-use Rattle.core_turns.proofs.Words.{◌≡◌, ◌≢◌, inl, ℕ, List, refl, sym, ap, subst, arith, Contains, Hold, Reflow, EndsHold, Gains, IsWithin, Kind, layout_of, AreUnderWay, found_listed, gains_item, Point, BlockRead, ReadsColumn, outs_by_step, GetRun, More, Core, IsCore, CoreState, IsReadKind, IsGetOf, BeginsGet, ReadsTurn, SolvesGet, HoldingCall, Putting, Reading, Copying, actor_of, ranges_of, HaveNoneInCommon, AreCallsOf}
+use Rattle.core_turns.proofs.Words.{◌≡◌, ◌≢◌, inl, ℕ, List, ap, arith, Contains, Hold, EndsHold, Gains, Kind, layout_of, found_listed, gains_item, outs_by_step, GetRun, More, Core, IsCore, CoreState, IsReadKind, IsGetOf, BeginsGet, ReadsTurn, SolvesGet, HoldingCall, Putting, Reading, Copying, actor_of, HaveNoneInCommon, AreCallsOf}
 use Rattle.core_turns.proofs.Calls.{range_listed, ranges_read, calls_gain, calls_lose, calls_swap}
 use Rattle.core_turns.proofs.Frames.{KeepsCalls, calls_stay}
 use Rattle.core_turns.proofs.GetTurns.{get_of_more, begins_holds, solved_of}
@@ -11,14 +11,6 @@ OnlyHolds old new = new ≡ record old { holds = new.holds }
 calls_held : (old new : Core) → OnlyHolds old new → KeepsCalls old new
 calls_held old new core = search arith
 
--- The ranges of the puts beside a read are those of all.
-under_read : {left calls : List HoldingCall} {run : GetRun} (old new : Core) → new.pool.blocks ≡ old.pool.blocks
-    → Gains left calls (Reading run)
-    → (AreUnderWay old.pool.blocks (ranges_of left) → AreUnderWay new.pool.blocks (ranges_of calls))
-    × (AreUnderWay old.pool.blocks (ranges_of calls) → AreUnderWay new.pool.blocks (ranges_of left))
-under_read {left} {calls} {run} old new blocks gains =
-    let same = ranges_read gains in search arith
-
 -- A read begins: no put has a sector of its block, which stands in the table.
 pub get_begins_calls : {old new : Core} {run : GetRun} {left calls : List HoldingCall} (actor id : ℕ) (asked : Kind)
     → IsReadKind asked → IsCore old → BeginsGet old new actor asked id (More run)
@@ -27,8 +19,7 @@ pub get_begins_calls : {old new : Core} {run : GetRun} {left calls : List Holdin
 get_begins_calls {old} {new} {run} {left} {calls} actor id asked reads is begins apart gains are =
     calls_gain gains (calls_held old new begins.6)
     (λ hold listed. begins_holds old new actor id asked (More run) hold begins listed)
-    ((under_read old new (cc) gains).0 are.under) (subst IsReadKind (sym begins.2) reads, begins.7)
-    (search (none_in_common, arith)) are
+    (rw (begins.6, ranges_read gains) are.under) (rw begins.2 reads, begins.7) (search (none_in_common, arith)) are
   where
     its_layout : layout_of old.pool.blocks.parity old.pool.blocks.births run.entry ≡ run.read.layout
     its_layout = cc
@@ -56,22 +47,16 @@ read_swaps : {core : Core} {run next : GetRun} {left calls nexts : List HoldingC
     → next.read.layout ≡ run.read.layout → IsReadKind next.kind × IsGetOf core next → Gains left calls (Reading run)
     → Gains left nexts (Reading next) → AreCallsOf core calls → AreCallsOf core nexts
 read_swaps {core} {run} {next} {left} {calls} {nexts} hold layout of gains again are =
-    calls_swap gains again hold (search read_apart) of
-    ((under_read core core refl again).0 ((under_read core core refl gains).1 are.under)) are
+    calls_swap gains again hold (search read_apart) of (rw (ranges_read again, ← ranges_read gains) are.under) are
 
--- Devices that are out stay out over a column,
-column_outs : {reflow : Reflow} {old new : BlockRead} {here there : Point} → ReadsColumn reflow old here new there
-    → IsWithin here.out there.out
-column_outs reads = search (outs_by_step, arith)
-
--- when one more is read,
+-- when one more column is read,
 pub get_reads_calls : {before after : CoreState} {run next : GetRun} {left calls nexts : List HoldingCall}
     → ReadsTurn before run after (More next) → Gains left calls (Reading run) → Gains left nexts (Reading next)
     → AreCallsOf before.core calls → AreCallsOf after.core nexts
 get_reads_calls {before} {after} {run} {next} {left} {calls} reads gains again are =
     let of = are.each (Reading run) (gains_item left calls (Reading run) gains) in
     read_swaps (cc) reads.3.on.layout_is (search arith, get_of_more before after (More next) of.1 reads)
-    gains again (calls_stay before.core after.core calls reads.2 (column_outs reads.3) are)
+    gains again (calls_stay before.core after.core calls reads.2 (search (outs_by_step, arith)) are)
 
 -- and when the block is solved.
 pub get_solves_calls : {core : Core} {run next : GetRun} {left calls nexts : List HoldingCall} → SolvesGet run next
@@ -85,4 +70,4 @@ pub get_ends_calls : {old new : Core} {run : GetRun} {left calls : List HoldingC
     → EndsHold old.holds new.holds run.hold → Gains left calls (Reading run) → AreCallsOf old calls
     → AreCallsOf new left
 get_ends_calls {old} {new} {run} {left} {calls} core ends gains are =
-    calls_lose gains (calls_held old new core) ends ((under_read old new (cc) gains).1 are.under) are
+    calls_lose gains (calls_held old new core) ends (rw (core, ← ranges_read gains) are.under) are

@@ -1,5 +1,5 @@
 -- What a read keeps of its block, turn by turn.
-use Rattle.core_turns.proofs.Words.{◌≡◌, ℕ, ◌<◌, List, false, Option, Some, None, Result, Ok, Err, sym, ◌∙◌, ap, subst, arith, OnOk, cases_lt, Disk, Unchanged, Reflow, Layout, rows_of, IsRequiredPlace, IsFrontOf, IndexEntry, entry_of, IsLeftOver, has_device, IsWithin, Kind, Map, Cell, IsCell, found_id, found_listed, HasLostFew, OnlyFailedGoOut, point_of, IsRightBlock, IsAtColumn, read_begun, read_stays, read_more, read_left_over, read_lost_few, IsReadRight, HoldsMap, block_stays, GetRun, OutOfMemory, Solved, NotYet, Bytes, Damaged, Turn, More, Busy, Done, Core, CoreState, at_disk, pool_at, IsReadKind, HasTooManyOut, IsGetOf, BeginsGet, ReadsTurn, IsSolved, SolvesGet, AnswersSolved, EndsGet, IsSolvedAs, HoldsGet, FindsGet, KeepsGet, TellsGet, answer_of, to_solve_of}
+use Rattle.core_turns.proofs.Words.{◌≡◌, ℕ, ◌<◌, List, false, Option, Some, None, Result, Ok, Err, sym, ◌∙◌, ap, subst, arith, OnOk, cases_lt, Disk, Unchanged, rows_of, IsRequiredPlace, IsFrontOf, entry_of, IsLeftOver, has_device, IsWithin, Kind, Map, Cell, IsCell, found_id, found_listed, HasLostFew, OnlyFailedGoOut, point_of, IsAtColumn, read_begun, read_stays, read_more, read_left_over, read_lost_few, IsReadRight, HoldsMap, block_stays, GetRun, OutOfMemory, Solved, NotYet, Bytes, Damaged, Turn, More, Busy, Done, Core, CoreState, at_disk, pool_at, IsReadKind, HasTooManyOut, IsGetOf, BeginsGet, ReadsTurn, IsSolved, SolvesGet, AnswersSolved, EndsGet, IsSolvedAs, HoldsGet, FindsGet, KeepsGet, TellsGet, answer_of, to_solve_of}
 use Rattle.core_state.specs.declared.answer.Kind.TheVariants as kind
 
 -- A read that begins holds the block that the map has at its id.
@@ -9,11 +9,9 @@ pub get_finds : (map : Map) (old new : Core) (disk : Disk) (actor id : ℕ) (ask
 get_finds map old new disk actor id asked (More run) holds begins =
     let listed = found_listed old.pool.blocks.table.entries id run.entry begins.1 in
     let told = holds.table.listed run.entry listed in
-    let held : map id ≡ Some told.0 = ap map (sym (found_id old.pool.blocks.table.entries id run.entry begins.1))
-    ∙ told.1 in
-    subst (λ (core : Core). FindsGet map (at_disk core disk) id (More run)) (sym begins.6) (
+    rw begins.6 (
       told.0,
-      held,
+      ap map (sym (found_id old.pool.blocks.table.entries id run.entry begins.1)) ∙ told.1,
       search (read_begun, arith),
     )
 get_finds map old new disk actor id asked (Busy by) holds begins = tt
@@ -21,10 +19,7 @@ get_finds map old new disk actor id asked (Done given) holds begins = search (by
   where
     by : entry_of old.pool.blocks.table.entries id ≡ None → (value : Option (List ℕ)) → map id ≡ value → map id ≡ None
     by none None is = is
-    by none (Some content) is = search (clash, arith)
-      where
-        clash : {entry : IndexEntry} → None ≡ Some entry → ⊥
-        clash same = cc
+    by none (Some content) is = search arith
 
 -- A read that has one column more is of its block still.
 pub get_reads : {content : List ℕ} (before after : CoreState) {run : GetRun} (result : Turn GetRun)
@@ -36,12 +31,9 @@ get_reads {content} before after {run} (More next) front of place left unchanged
     let reflow = before.core.pool.uber.reflow in
     let done = before.core.pool.done in
     subst (λ (core : Core). HoldsGet content (at_disk core after.disk) next) (sym reads.2) (rw reads.1 (record {
-      right = subst (λ (l : Layout). IsRightBlock l content reflow done after.disk.reads after.core.pool.out)
-          (sym reads.3.on.layout_is)
-          (block_stays run.read.layout content reflow done before.disk.reads after.disk.reads before.core.pool.out
-          after.core.pool.out
-          outs.still (λ cell device device_sector cell_is required used told. unchanged.reads device device_sector
-          ∙ told) holds.right);
+      right = rw reads.3.on.layout_is (block_stays run.read.layout content reflow done before.disk.reads
+          after.disk.reads before.core.pool.out after.core.pool.out outs.still
+          (λ cell device device_sector is required used told. unchanged.reads device device_sector ∙ told) holds.right);
       len_is = holds.len_is;
       are_bytes = holds.are_bytes;
       digest_is = holds.digest_is;
@@ -70,10 +62,8 @@ get_solves content state run next whole of holds solves = search (by, arith)
 
 -- A read is answered by its block, or was cut short.
 pub get_tells : (content : List ℕ) (old new : Core) (disk : Disk) (run : GetRun) (result : Turn GetRun)
-    → IsReadKind run.kind
-    → HoldsGet content (at_disk old disk) run → EndsGet old run new result → TellsGet content run result
-get_tells content old new disk run (More next) asked holds ends = cc
-get_tells content old new disk run (Busy by) asked holds ends = absurd ends
+    → IsReadKind run.kind → HoldsGet content (at_disk old disk) run → EndsGet old run new result
+    → TellsGet content run result
 get_tells content old new disk run (Done given) asked holds ends = search (by, cases_lt, arith)
   where
     told : (bytes : List ℕ) (asked : Kind) → IsReadKind asked → bytes ≡ content
@@ -87,6 +77,7 @@ get_tells content old new disk run (Done given) asked holds ends = search (by, c
     by NotYet is answers = search arith
     by (Bytes bytes) is answers = search (told, arith)
     by Damaged is answers = absurd is
+get_tells content old new disk run other asked holds ends = absurd ends
 
 -- A read stays with its block while others' turns leave what is read at the block's places, on devices that
 -- are in use still.
@@ -99,16 +90,14 @@ pub get_stays : (content : List ℕ) (before after : CoreState) (run : GetRun)
     → has_device after.core.pool.out device ≡ false → before.disk.reads device device_sector ≡ Some cell.bytes
     → after.disk.reads device device_sector ≡ Some cell.bytes)
     → HoldsGet content before run → HoldsGet content after run
-get_stays content before after run widths front within few same holds =
-    record {
-      right = subst (λ (at : Reflow × ℕ). IsRightBlock run.read.layout content at.0 at.1 after.disk.reads
-          after.core.pool.out) (λ i. (sym widths i, sym front i)) (search block_stays);
-      len_is = holds.len_is;
-      are_bytes = holds.are_bytes;
-      digest_is = holds.digest_is;
-      so_far = search (read_stays, arith);
-      solved = λ few_after. holds.solved (few few_after);
-    }
+get_stays content before after run widths front within few same holds = record {
+  right = rw (widths, front) (search block_stays);
+  len_is = holds.len_is;
+  are_bytes = holds.are_bytes;
+  digest_is = holds.digest_is;
+  so_far = search (read_stays, arith);
+  solved = λ few_after. holds.solved (few few_after);
+}
 
 -- So it is where solving went well.
 pub went_solves : (run next : GetRun) (result : Result (Unit {0}) OutOfMemory) → OnOk result (SolvesGet run next)

@@ -1,5 +1,6 @@
 -- What stands between two turns, over the turns of reads.
 use Rattle.core_turns.proofs.Words.{◌≡◌, ◌≢◌, ◌⊎◌, inl, inr, ⊎_elim, ℕ, ◌<◌, List, Option, Some, sym, ◌∙◌, ap, subst, Contains, Disk, Lawful, Unchanged, Hold, EndsHold, rows_of, Gains, Kind, Map, Kept, Setting, Nowhere, gains_old, gains_item, gains_cases, OnlyFailedGoOut, point_of, IsAtColumn, CommitRun, GetRun, PutRun, More, Core, IsCore, CoreState, at_disk, BeginsGet, HoldsGet, ReadsTurn, SolvesGet, HoldingCall, Putting, Reading, SetsContent, actor_of, HoldsCall, AreCallsOf, Stands}
+use Rattle.core_turns.proofs.TakenBack.{each_gained}
 use Rattle.core_turns.proofs.Frames.{call_off_nowhere, off_nowhere, leaves_read}
 use Rattle.core_turns.proofs.StandFrames.{groups_read, stands_frame}
 use Rattle.core_turns.proofs.GetLaws.{get_finds, get_reads, get_solves}
@@ -54,12 +55,8 @@ module _ {setting : Setting} {last : Kept} {begun : List Kept} {map : Map} {cont
         found.1,
         λ nows calls sets gains. stands_held old new disk is (cc)
             (keeps_gained old.pool.done old.holds new.holds run.hold (cc) begins.8 begins.9) (read_adds gains)
-            (λ call listed. ⊎_elim
-            (λ (same : Reading run ≡ call). inl (rw (← same)
-            (subst (λ (bytes : List ℕ). HoldsGet bytes (at_disk new disk) run)
-            (sym (ap nows (ap (λ (h : Hold). h.actor) begins.4) ∙ sets.own)) found.2)))
-            (λ was. inr (rw (sets.others (actor_of call) (apart call was)) (stands.each call was)))
-            (gains_cases left calls (Reading run) call gains listed)) stands,
+            (each_gained gains (inl (rw (ap nows (ap (λ (h : Hold). h.actor) begins.4) ∙ sets.own) found.2))
+            (λ call was. inr (rw (sets.others (actor_of call) (apart call was)) (stands.each call was)))) stands,
       )
 
   -- It reads a column more,
@@ -77,12 +74,10 @@ module _ {setting : Setting} {last : Kept} {begun : List Kept} {map : Map} {cont
       let still = stands_frame Nowhere before after leaves (search call_off_nowhere) (search off_nowhere) reads.2
       unchanged.goes_on.later (search groups_read) stands in
       stands_with (λ group spares put has. spares put (call_loses gains put (read_adds again put has)))
-      (λ call has. ⊎_elim
-      (λ (same : Reading next ≡ call). rw (← same) (subst (λ (actor : ℕ). HoldsGet (contents actor) after next)
-      (sym (ap (λ (r : GetRun). r.hold.actor) reads.1))
-      (get_reads before after (More next) is.is.front
-      (are.each (Reading run) listed).1 place low unchanged outs (stands.each (Reading run) listed) reads)))
-      (λ was. still.each call (search gains_old)) (gains_cases left nexts (Reading next) call again has)) still
+      (each_gained again (subst (λ (actor : ℕ). HoldsGet (contents actor) after next)
+      (sym (ap (λ (r : GetRun). r.hold.actor) reads.1)) (get_reads before after (More next) is.is.front
+      (are.each (Reading run) listed).1 place low unchanged outs (stands.each (Reading run) listed) reads))
+      (λ call was. still.each call (gains_old left calls (Reading run) call gains was))) still
 
   -- and is solved.
   pub get_solves_stands : {state : CoreState} {run next : GetRun} {left calls nexts : List HoldingCall}
@@ -93,12 +88,10 @@ module _ {setting : Setting} {last : Kept} {begun : List Kept} {map : Map} {cont
   get_solves_stands {state} {run} {next} {left} {calls} {nexts} is solves whole gains again are stands =
       let listed = gains_item left calls (Reading run) gains in
       stands_with (λ group spares put has. spares put (call_loses gains put (read_adds again put has)))
-      (λ call has. ⊎_elim
-      (λ (same : Reading next ≡ call). rw (← same) (subst (λ (actor : ℕ). HoldsGet (contents actor) state next)
-      (sym (ap (λ (r : GetRun). r.hold.actor) solves.rest))
-      (get_solves (contents run.hold.actor) state run next whole (are.each (Reading run) listed).1
-      (stands.each (Reading run) listed) solves)))
-      (λ was. stands.each call (search gains_old)) (gains_cases left nexts (Reading next) call again has)) stands
+      (each_gained again (subst (λ (actor : ℕ). HoldsGet (contents actor) state next)
+      (sym (ap (λ (r : GetRun). r.hold.actor) solves.rest)) (get_solves (contents run.hold.actor) state run next whole
+      (are.each (Reading run) listed).1 (stands.each (Reading run) listed) solves))
+      (λ call was. stands.each call (gains_old left calls (Reading run) call gains was))) stands
 
   -- A read is gone, and its hold with it.
   pub get_ends_stands : {old new : Core} {disk : Disk} {run : GetRun} {left calls : List HoldingCall} → IsCore old

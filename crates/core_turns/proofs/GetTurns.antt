@@ -1,5 +1,5 @@
 -- Gets and sums, turn by turn: what each turn comes to, and what it keeps.
-use Rattle.core_turns.proofs.Words.{◌≡◌, ℕ, ◌+◌, List, Some, refl, ◌∙◌, arith, Result, Ok, Err, Contains, OnOk, OnErr, Hold, Shared, EndsHold, IsClear, Layout, allocated_of, Gains, IndexEntry, entry_of, layout_of, Kind, AreInStep, gains_item, gains_old, found_listed, BlockRead, IsReadBegun, listed_in_pool, GetRun, OutOfMemory, NotYet, Turn, More, Busy, Done, Core, CoreState, IsCore, as_begun, reaching, HasTooManyOut, IsGetOf, IsMoreOf, BeginsGet, ReadsTurn, SolvesGet}
+use Rattle.core_turns.proofs.Words.{◌≡◌, ℕ, ◌+◌, List, Some, refl, ◌∙◌, arith, Result, Contains, OnOk, OnErr, Hold, Shared, EndsHold, IsClear, Layout, allocated_of, Gains, IndexEntry, entry_of, layout_of, Kind, AreInStep, gains_item, gains_old, found_listed, BlockRead, IsReadBegun, listed_in_pool, GetRun, OutOfMemory, NotYet, Turn, More, Core, CoreState, IsCore, as_begun, reaching, HasTooManyOut, IsGetOf, IsMoreOf, BeginsGet, ReadsTurn, SolvesGet}
 use Rattle.core_turns.proofs.Cores.{core_held}
 use Rattle.core_turns.proofs.Holds.{shared_ended}
 
@@ -52,21 +52,17 @@ read_ended is of ends = search (core_held, shared_ended, get_shared)
 -- One that has one column more is so too.
 pub get_of_more : (before after : CoreState) {run : GetRun} (result : Turn GetRun) → IsGetOf before.core run
     → ReadsTurn before run after result → IsMoreOf after.core result
-get_of_more before after (More next) of reads = search arith
-get_of_more before after other of reads = tt
+get_of_more before after other of reads = grind arith
 
 -- The uberblock stays in a turn that reads.
 pub reads_reaching : (before after : CoreState) (run : GetRun) (result : Turn GetRun)
     → ReadsTurn before run after result → reaching after.core ≡ reaching before.core
-reads_reaching before after run (More next) reads = cc
-reads_reaching before after run (Busy by) reads = absurd reads
-reads_reaching before after run (Done given) reads = cc
+reads_reaching before after run result reads = grind arith
 
 -- Another read that begins leaves all but the holds, and the holds of those under way.
 pub begins_rest : (old new : Core) (actor id : ℕ) (asked : Kind) (result : Turn GetRun)
     → BeginsGet old new actor asked id result → new ≡ record old { holds = new.holds }
-begins_rest old new actor id asked (More run) begins = begins.6
-begins_rest old new actor id asked other begins = search arith
+begins_rest old new actor id asked other begins = grind arith
 
 pub begins_holds : (old new : Core) (actor id : ℕ) (asked : Kind) (result : Turn GetRun) (hold : Hold)
     → BeginsGet old new actor asked id result → Contains old.holds hold → Contains new.holds hold
@@ -79,5 +75,4 @@ solved_of core old new solves of = search arith
 
 pub went_of : {old new : GetRun} (result : Result (Unit {0}) OutOfMemory) → OnOk result (SolvesGet old new)
     → OnErr result (new ≡ old) → (core : Core) → IsGetOf core old → IsGetOf core new
-went_of (Ok value) solves same core of = search solved_of
-went_of (Err why) solves same core of = rw same of
+went_of result solves same core of = grind (arith, solved_of)

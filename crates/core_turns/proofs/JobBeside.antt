@@ -1,5 +1,5 @@
 -- A job beside puts, and beside the answer of a commit.
-use Rattle.core_turns.proofs.Words.{◌≡◌, ⊎_elim, ℕ, ◌<◌, ◌≤◌, List, [], sym, subst, arith, cases_lt, Hold, Overlaps, State, Valid, Moved, Reflow, NeedsOld, Layout, end_of, sector_of, IsRequiredPlace, NeedsScratch, are_required, Job, job_begin, job_end, Point, Cell, IsCell, RightAt, IsCommitChoice, MayRecord, front_behind, IsClose, CopiesSector, IsPlaceSoFar, IsTarget, MovesMark, choice_moves, front_stays_behind, same_targets, cell_close, job_at_front, job_some, target_free, IsInPool, close_to_end, in_pool, one_sector, widths_of, JobRun, GoesOnIn, HoldsJob, run_beside, moved_goes_on, moved_holds, sector_inside, CopyRun, PutRun, Core, IsCore, hold_for, CopiesCells, IsJobOf, IsPutOf, ShareNoSector}
+use Rattle.core_turns.proofs.Words.{◌≡◌, ⊎_elim, ℕ, ◌<◌, ◌≤◌, List, [], sym, subst, arith, cases_lt, Hold, Overlaps, State, Valid, Moved, Reflow, NeedsOld, Layout, end_of, sector_of, IsRequiredPlace, NeedsScratch, are_required, Job, job_begin, job_end, Point, Cell, IsCell, RightAt, IsCommitChoice, MayRecord, front_behind, IsClose, CopiesSector, IsTarget, MovesMark, choice_moves, front_stays_behind, same_targets, cell_close, job_at_front, job_some, target_free, IsInPool, close_to_end, in_pool, one_sector, widths_of, JobRun, GoesOnIn, HoldsJob, run_beside, moved_goes_on, moved_holds, sector_inside, CopyRun, PutRun, Core, IsCore, hold_for, CopiesCells, IsJobOf, IsPutOf, ShareNoSector}
 use Rattle.reflow_mark.specs.declared.reflow.State.TheVariants.{None}
 use Rattle.core_turns.proofs.Beside.{IsWrittenTo}
 use Rattle.core_turns.proofs.Commits.{change_below}
@@ -12,31 +12,28 @@ pub job_off_written : {core : Core} {run : PutRun} {other : CopyRun} (out : ℕ)
     → ShareNoSector run.hold other.hold
     → IsJobOff (IsWrittenTo run.range.layout core.pool.uber.reflow core.pool.done out) core.pool.uber.reflow
     core.pool.done other.job
-job_off_written {core} {run} {other} out of job apart = record { places = off }
-  where
-    off : (cell : Cell) (device device_sector : ℕ) → IsClose core.pool.uber.reflow cell
-        → CopiesSector core.pool.uber.reflow other.job.job cell.sector
-        → IsPlaceSoFar core.pool.uber.reflow core.pool.done other.job.job
-        (job_end core.pool.uber.reflow other.job.job) cell device device_sector
-        → IsWrittenTo run.range.layout core.pool.uber.reflow core.pool.done out device device_sector → ⊥
-    off cell device device_sector close inside place (write, has, used, device_is, sector_is) =
-        let required = (are_required run.range.layout core.pool.uber.reflow core.pool.done).only write has in
-        let sector = sector_of run.range.layout write.row write.column in
-        let widths = widths_of run.range.layout core.pool.uber.reflow of.pool in
-        let near = close_to_end run.range.layout core.pool.uber.reflow write.row write.column of.pool required.0 in
-        let there : IsRequiredPlace core.pool.uber.reflow core.pool.done
-        (end_of run.range.layout write.row) sector device
-        device_sector =
-        search arith in
-        ⊎_elim
-        (λ asked.
-        let same : sector ≡ cell.sector = search one_sector in
-        let mine = sector_inside run.range.layout core.pool.uber.reflow write.row write.column of.pool required.0 in
-        apart (subst (λ (h : Hold). Overlaps run.hold h.lo h.hi) (sym job.hold_is) (rw of.hold_is (record {
-          begins = omega (arith, mine.0, same, inside.1);
-          ends = omega (arith, mine.1, same, inside.0);
-        }))))
-        (λ copied. search (target_free, in_pool)) place
+job_off_written {core} {run} {other} out of job apart = record {
+  places = λ cell device device_sector close inside place written.
+      let layout = run.range.layout in
+      let reflow = core.pool.uber.reflow in
+      let row = written.0.row in
+      let column = written.0.column in
+      let required = (are_required layout reflow core.pool.done).only written.0 written.1 in
+      let sector = sector_of layout row column in
+      let widths = widths_of layout reflow of.pool in
+      let near = close_to_end layout reflow row column of.pool required.0 in
+      let there : IsRequiredPlace reflow core.pool.done (end_of layout row) sector device device_sector = search arith
+      in
+      ⊎_elim
+      (λ asked.
+      let same : sector ≡ cell.sector = search one_sector in
+      let mine = sector_inside layout reflow row column of.pool required.0 in
+      apart (subst (λ (h : Hold). Overlaps run.hold h.lo h.hi) (sym job.hold_is) (rw of.hold_is (record {
+        begins = omega (arith, mine.0, same, inside.1);
+        ends = omega (arith, mine.1, same, inside.0);
+      }))))
+      (λ copied. search (target_free, in_pool)) place;
+}
 
 -- A job writes where no block of the pool has to be right.
 pub off_target : (reflow : Reflow) (done : ℕ) (job : Job) (sector : ℕ) (layout : Layout) → IsInPool layout reflow
@@ -77,9 +74,8 @@ still_asked reflow done chosen moves row_end sector device device_sector from be
     needs was = search (by, arith)
       where
         by : (state : State) → state ≡ Moved → NeedsOld state reflow.mark row_end → NeedsOld state moves.mark row_end
-        by None is needs = needs
-        by Valid is needs = cc
         by Moved is needs = search (needs, arith)
+        by other is needs = cc
 
 -- It has come as far with each cell.
 pub cells_behind : (reflow : Reflow) (done : ℕ) (run : JobRun) (holds : List Hold) (chosen : Reflow) (point : Point)

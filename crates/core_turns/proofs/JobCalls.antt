@@ -1,12 +1,13 @@
 -- Which calls are under way over each turn of a job.
-use Rattle.core_turns.proofs.Words.{◌≡◌, ◌≢◌, ⊎_elim, ℕ, List, Some, None, sym, subst, arith, Contains, cases_lt, filter_map-append, Hold, Gains, Reflow, job_begin, job_end, IsWithin, IsOutside, PutRange, AreUnderWay, gains_cases, gains_old, pairs_beside, pairs_gain, pairs_lose, CopyRun, Core, CoreState, BeginsJobSo, DropsJob, IsJobOf, StepsJob, HoldingCall, Putting, Reading, Copying, AreBeside, AreCallsOf, HaveNoneInCommon, IsCallOfCore, ShareNoSector, actor_of, hold_of_call, ranges_of}
+use Rattle.core_turns.proofs.Words.{◌≡◌, ◌≢◌, ℕ, List, arith, Contains, cases_lt, filter_map-append, Hold, Gains, job_begin, job_end, IsWithin, IsOutside, gains_old, pairs_beside, pairs_gain, pairs_lose, CopyRun, Core, CoreState, BeginsJobSo, DropsJob, IsJobOf, StepsJob, HoldingCall, Putting, Reading, Copying, AreBeside, AreCallsOf, HaveNoneInCommon, IsCallOfCore, ShareNoSector, actor_of, hold_of_call, ranges_of}
 use Rattle.core_turns.proofs.Calls.{beside_turn, calls_swap}
+use Rattle.core_turns.proofs.TakenBack.{each_gained}
 use Rattle.core_turns.proofs.Frames.{KeepsWidths, calls_stay, ends_other, get_of_stays, hold_listed, put_of_stays}
 
 -- A job has no range of a put.
-pub ranges_copied : (left calls : List HoldingCall) (run : CopyRun) → Gains left calls (Copying run)
+pub ranges_copied : {left calls : List HoldingCall} {run : CopyRun} → Gains left calls (Copying run)
     → ranges_of calls ≡ ranges_of left
-ranges_copied left calls run gains = search (filter_map-append, arith)
+ranges_copied gains = search (filter_map-append, arith)
 
 -- ---- a job begins
 
@@ -19,20 +20,11 @@ pub job_begins_calls : {old new : Core} {run : CopyRun} {left calls : List Holdi
     → BeginsJobSo old new actor run → ((call : HoldingCall) → Contains left call → actor_of call ≢ actor)
     → Gains left calls (Copying run) → AreCallsOf old left → AreCallsOf new calls
 job_begins_calls {old} {new} {run} {left} {calls} actor begins differs gains are = record {
-  each = λ call listed. ⊎_elim
-      (search arith)
-      (λ was. of_call call (are.each call was)) (gains_cases left calls (Copying run) call gains listed);
-  under = subst (λ (l : List PutRange). AreUnderWay new.pool.blocks l) (sym (ranges_copied left calls run gains))
-      (search arith);
+  each = each_gained gains begins.of (λ call was. of_call call (are.each call was));
+  under = rw (ranges_copied gains) (search arith);
   beside = pairs_gain AreBeside beside_turn left calls (Copying run) gains (search (none_in_common, arith)) are.beside;
 }
   where
-    none_under_way : (other : CopyRun) → IsJobOf old other → ⊥
-    none_under_way other of = search (some_none, arith)
-      where
-        some_none : {actor : ℕ} → Some actor ≡ None → ⊥
-        some_none same = cc
-
     of_call : (call : HoldingCall) → IsCallOfCore old call → IsCallOfCore new call
     of_call (Putting put) of = search (put_of_stays, begun_widths, gains_old)
     of_call (Reading get) of = search (get_of_stays, begun_widths, gains_old)
@@ -44,7 +36,7 @@ job_begins_calls {old} {new} {run} {left} {calls} actor begins differs gains are
     none_in_common : (other : HoldingCall) → IsCallOfCore old other → HaveNoneInCommon (Copying run) other
     none_in_common (Putting put) of = clear_of put.hold of.holds
     none_in_common (Reading get) of = clear_of get.hold of.1.holds
-    none_in_common (Copying other) of = none_under_way other of
+    none_in_common (Copying other) of = cc
 
 -- ---- a job goes on
 
@@ -53,61 +45,41 @@ pub job_steps_calls : {before after : CoreState} {run next : CopyRun} {left call
     → Gains left calls (Copying run) → Gains left nexts (Copying next) → AreCallsOf before.core calls
     → AreCallsOf after.core nexts
 job_steps_calls {before} {after} {run} {next} {left} {calls} {nexts} steps of within gains again are =
-    calls_swap gains again steps.hold same_apart of
-    (rw (ranges_copied left nexts next again) (subst (λ (l : List PutRange). AreUnderWay after.core.pool.blocks l)
-    (ranges_copied left calls run gains) now.under)) now
+    let now = calls_stay before.core after.core calls steps.rest within are in
+    calls_swap gains again steps.hold same_apart of (rw (ranges_copied again, ← ranges_copied gains) now.under) now
   where
-    now : AreCallsOf after.core calls
-    now = search calls_stay
-
     same_apart : (other : HoldingCall) → HaveNoneInCommon (Copying run) other → HaveNoneInCommon (Copying next) other
-    same_apart (Putting put) apart = search arith
-    same_apart (Reading get) apart = search arith
     same_apart (Copying other) apart = apart
+    same_apart other apart = search arith
 
 -- ---- a job ends
 
--- Only one is left out when a job is gone: no other was under way.
-pub gone_others : {core : Core} {run : CopyRun} {left calls : List HoldingCall} → Gains left calls (Copying run)
-    → AreCallsOf core calls → (other : CopyRun) → Contains left (Copying other) → ⊥
-gone_others {core} {run} {left} {calls} gains are other listed =
-    (pairs_beside AreBeside beside_turn calls left (Copying run) (Copying other) gains are.beside listed).apart
-
--- One that is given up leaves the others.
+-- One that is given up leaves the others, of which none is a job.
 pub job_drops_calls : {old new : Core} {run : CopyRun} {left calls : List HoldingCall} → DropsJob old new run
     → Gains left calls (Copying run) → AreCallsOf old calls → AreCallsOf new left
 job_drops_calls {old} {new} {run} {left} {calls} drops gains are = record {
   each = λ call listed. of_call call listed (are.each call (search gains_old));
-  under = rw drops.rest (subst (λ (l : List PutRange). AreUnderWay old.pool.blocks l)
-      (ranges_copied left calls run gains) are.under);
+  under = rw (drops.rest, ← ranges_copied gains) are.under;
   beside = search (pairs_lose, beside_turn);
 }
   where
     widths : KeepsWidths old new
     widths = search arith
 
+    beside : (call : HoldingCall) → Contains left call → AreBeside (Copying run) call
+    beside call listed = pairs_beside AreBeside beside_turn calls left (Copying run) call gains are.beside listed
+
     still_held : (call : HoldingCall) → Contains left call → IsCallOfCore old call
         → Contains new.holds (hold_of_call call)
     still_held call listed of = ends_other old.holds new.holds run.hold (hold_of_call call) drops.ends
-        (hold_listed old call of)
-        (λ same. (pairs_beside AreBeside beside_turn calls left (Copying run) call gains are.beside listed).actors (cc))
+        (hold_listed old call of) (λ same. (beside call listed).actors (cc))
 
     of_call : (call : HoldingCall) → Contains left call → IsCallOfCore old call → IsCallOfCore new call
     of_call (Putting put) listed of = put_of_stays old new put widths (still_held (Putting put) listed of) of
     of_call (Reading get) listed of = (of.0, get_of_stays old new get widths (still_held (Reading get) listed of) of.1)
-    of_call (Copying other) listed of = absurd (gone_others gains are other listed)
+    of_call (Copying other) listed of = absurd (beside (Copying other) listed).apart
 
--- ---- the front is behind a job
-
-module _ (core : Core) (run : CopyRun) (of : IsJobOf core run) where
-  abbrev reflow : Reflow
-  reflow = core.pool.uber.reflow
-
-  -- the front behind it
-  abbrev behind : ℕ
-  behind = job_end core.pool.uber.reflow run.job.job
-
-  -- The sectors of a call that shares none with the job are outside of the job's.
-  pub apart_outside : (hold : Hold) → ShareNoSector run.hold hold
-      → IsOutside (job_begin run.job.job) behind hold.lo hold.hi
-  apart_outside hold apart = search (cases_lt, arith)
+-- The sectors of a call that shares none with a job are outside of the job's.
+pub apart_outside : (core : Core) (run : CopyRun) → IsJobOf core run → (hold : Hold) → ShareNoSector run.hold hold
+    → IsOutside (job_begin run.job.job) (job_end core.pool.uber.reflow run.job.job) hold.lo hold.hi
+apart_outside core run of hold apart = search (cases_lt, arith)

@@ -1,14 +1,15 @@
 -- The end of a job beside the calls that are under way: the front is behind it, and each call goes on where it was.
-use Rattle.core_turns.proofs.Words.{◌≡◌, ℕ, List, [], None, Option, Some, refl, sym, subst, arith, Contains, Disk, Hold, EndsHold, Reflow, Layout, end_of, sector_of, Gains, job_begin, job_end, Map, layout_of, Kept, Setting, point_of, IsFrontOf, call_count, cell_below, cell_close, job_at_front, job_front, job_some, rows_same, gains_item, gains_old, pairs_beside, pairs_lose, IsInPool, CommitRun, run_leaves_choice, run_ends, HoldsMap, listed_in_pool, CopyRun, GetRun, PutRun, Core, IsCore, as_begun, at_disk, pool_at, IsCommitOf, hold_for, CopiesCells, EndsJob, IsJobOf, IsGetOf, AsksAlike, IsPutOf, HoldingCall, Putting, Reading, Copying, AreBeside, AreCallsOf, GroupsStand, HaveNoneInCommon, HoldsCall, IsCallOfCore, ShareNoSector, Stands, actor_of, hold_of_call}
+use Rattle.core_turns.proofs.Words.{◌≡◌, ℕ, List, [], None, Option, Some, refl, arith, Contains, Disk, Hold, EndsHold, Reflow, Layout, end_of, sector_of, Gains, job_begin, job_end, Map, layout_of, Kept, Setting, point_of, IsFrontOf, call_count, cell_below, cell_close, job_at_front, job_front, job_some, rows_same, gains_item, gains_old, pairs_beside, pairs_lose, IsInPool, CommitRun, run_leaves_choice, run_ends, HoldsMap, listed_in_pool, CopyRun, GetRun, PutRun, Core, IsCore, as_begun, at_disk, pool_at, IsCommitOf, hold_for, CopiesCells, EndsJob, IsJobOf, IsGetOf, AsksAlike, IsPutOf, HoldingCall, Putting, Reading, Copying, AreBeside, AreCallsOf, GroupsStand, HaveNoneInCommon, HoldsCall, IsCallOfCore, ShareNoSector, Stands, actor_of, hold_of_call}
 use Rattle.core_turns.proofs.Calls.{beside_turn}
 use Rattle.core_turns.proofs.Frames.{ends_other, hold_listed}
+use Rattle.core_turns.proofs.GetStands.{call_loses}
 use Rattle.core_turns.proofs.Holds.{alone_passes}
 use Rattle.core_turns.proofs.JobCalls.{apart_outside, ranges_copied}
 use Rattle.core_turns.proofs.JobTurns.{below_behind}
 use Rattle.core_turns.proofs.Moved.{block_moves, put_holds_moves, put_moves}
 use Rattle.core_turns.proofs.Rows.{IsBlockOutside, row_outside}
 
-module _ (core : Core) (run : CopyRun) (is : IsCore core) (of : IsJobOf core run) where
+module _ {core : Core} {run : CopyRun} (is : IsCore core) (of : IsJobOf core run) where
   abbrev reflow : Reflow
   reflow = core.pool.uber.reflow
 
@@ -20,23 +21,23 @@ module _ (core : Core) (run : CopyRun) (is : IsCore core) (of : IsJobOf core run
   front = search job_front
 
   -- A block outside the job's sectors is asked for where it was,
-  block_same : (layout : Layout) → IsInPool layout reflow → IsBlockOutside (job_begin run.job.job) behind layout
+  block_same : {layout : Layout} → IsInPool layout reflow → IsBlockOutside (job_begin run.job.job) behind layout
       → AsksAlike layout reflow core.pool.done reflow behind
-  block_same layout pool outside row column there =
+  block_same {layout} pool outside row column there =
       rows_same reflow core.pool.done run.job.job layout.start (end_of layout row) (sector_of layout row column)
       of.goes.may_run (omega arith) (search arith) (search row_outside)
 
   -- so is that of a put,
   put_same : (put : PutRun) → IsPutOf core put → ShareNoSector run.hold put.hold
       → AsksAlike put.range.layout reflow core.pool.done reflow behind
-  put_same put its apart = block_same put.range.layout its.pool (search (apart_outside, of, arith))
+  put_same put its apart = block_same its.pool (search (apart_outside, of, arith))
 
   -- and that of a read.
   get_same : (get : GetRun) → IsGetOf core get → ShareNoSector run.hold get.hold
       → AsksAlike get.read.layout reflow core.pool.done reflow behind
-  get_same get its apart = block_same get.read.layout its.pool (search (apart_outside, of, arith))
+  get_same get its apart = block_same its.pool (search (apart_outside, of, arith))
 
-  module _ (holds : List Hold) (ends : EndsHold core.holds holds run.hold) where
+  module _ {holds : List Hold} (ends : EndsHold core.holds holds run.hold) where
     -- the core that the end leaves
     abbrev ended : Core
     ended = record core { pool = record core.pool { done = behind }; holds = holds; copying = None }
@@ -74,22 +75,6 @@ module _ (core : Core) (run : CopyRun) (is : IsCore core) (of : IsJobOf core run
       reach = its.reach;
     }
 
-    groups_ended : (setting : Setting) (last : Kept) (begun : List Kept) (calls left : List HoldingCall)
-        (commit : Option CommitRun) (disk : Disk)
-        → ((put : PutRun) → Contains left (Putting put) → Contains calls (Putting put))
-        → GroupsStand setting last begun calls commit (at_disk core disk)
-        → GroupsStand setting last begun left commit (at_disk ended disk)
-    groups_ended setting last begun calls left None disk fewer groups = search
-    groups_ended setting last begun calls left (Some commit) disk fewer groups = record {
-      next = groups.next;
-      begun_is = groups.begun_is;
-      of = commit_on commit groups.of;
-      come = groups.come;
-      lies = search;
-      kept = groups.kept;
-      spared = λ put listed. groups.spared put (fewer put listed);
-    }
-
     -- ---- the map
 
     -- Each block is right at the front behind the job, which has copied all of its sectors.
@@ -124,11 +109,11 @@ module _ {old new : Core} {run : CopyRun} {left calls : List HoldingCall} (is : 
 
   -- The other calls are under way still.
   pub job_ends_calls : AreCallsOf new left
-  job_ends_calls = subst (λ (core : Core). AreCallsOf core left) (sym ends.rest) (record {
-    each = λ call listed. call_ended old run is of new.holds ends.ends call (beside call listed).apart
+  job_ends_calls = rw ends.rest (record {
+    each = λ call listed. call_ended is of ends.ends call (beside call listed).apart
         (ends_other old.holds new.holds run.hold (hold_of_call call) ends.ends (hold_listed old call (was call listed))
         (search (beside, arith))) (was call listed);
-    under = rw (← ranges_copied left calls run gains) are.under;
+    under = rw (← ranges_copied gains) are.under;
     beside = search (pairs_lose, beside_turn);
   })
 
@@ -143,21 +128,30 @@ module _ {old new : Core} {run : CopyRun} {left calls : List HoldingCall} (is : 
       → Stands setting last begun map contents calls commit (at_disk old disk)
       → Stands setting last begun map contents left commit (at_disk new disk)
   job_ends_stands {setting} {last} {begun} {map} {contents} {commit} {disk} whole all stands =
-      subst (λ (core : Core). Stands setting last begun map contents left commit (at_disk core disk)) (sym ends.rest)
-      (record {
-        groups = search (groups_ended, of, fewer);
+      rw ends.rest (record {
+        groups = groups_ended commit stands.groups;
         alike = stands.alike;
         kept = stands.kept;
-        spared = λ put listed. stands.spared put (fewer put listed);
+        spared = λ put listed. stands.spared put (call_loses gains put listed);
         excepted = stands.excepted;
         shape = stands.shape;
         tells = stands.tells;
         bank = stands.bank;
-        holds = map_ended old run is of new.holds ends.ends map disk whole all
+        holds = map_ended is of ends.ends map disk whole all
             (stands.each (Copying run) (gains_item left calls (Copying run) gains)) stands.holds;
-        each = λ call listed. call_holds old run is of new.holds ends.ends disk (contents (actor_of call)) call
+        each = λ call listed. call_holds is of ends.ends disk (contents (actor_of call)) call
             (beside call listed).apart (was call listed) (stands.each call (search gains_old));
       })
     where
-      fewer : (put : PutRun) → Contains left (Putting put) → Contains calls (Putting put)
-      fewer put listed = search gains_old
+      groups_ended : (commit : Option CommitRun) → GroupsStand setting last begun calls commit (at_disk old disk)
+          → GroupsStand setting last begun left commit (at_disk (ended is of ends.ends) disk)
+      groups_ended None groups = search
+      groups_ended (Some commit) groups = record {
+        next = groups.next;
+        begun_is = groups.begun_is;
+        of = commit_on is of ends.ends commit groups.of;
+        come = groups.come;
+        lies = search;
+        kept = groups.kept;
+        spared = λ put listed. groups.spared put (call_loses gains put listed);
+      }

@@ -1,14 +1,11 @@
 -- What a job that is under way has copied, over what others do.
-use Rattle.core_turns.proofs.Words.{◌≡◌, inr, ⊎_elim, ℕ, ◌<◌, [], true, false, sym, ◌∙◌, arith, cases_lt, Reflow, Job, Fill, Drain, Chunk, job_end, has_device, IsWithin, none_in, Point, MayRun, Cell, RightAt, IsDataSector, IsClose, CopiesSector, IsPlaceSoFar, IsTarget, JobRun, GoesOnIn, HoldsJob, run_beside, run_stays, none_empty, CopiesCells}
+use Rattle.core_turns.proofs.Words.{◌≡◌, inr, ⊎_elim, ℕ, ◌<◌, [], true, false, sym, ◌∙◌, arith, cases_lt, Reflow, Job, Fill, job_end, has_device, IsWithin, none_in, Point, MayRun, Cell, RightAt, IsDataSector, IsClose, CopiesSector, IsPlaceSoFar, IsTarget, JobRun, GoesOnIn, HoldsJob, run_beside, run_stays, none_empty, CopiesCells}
 use Rattle.core_turns.proofs.Beside.{required_data, row_below}
 
 -- ---- devices
 
 none_has : (device : ℕ) → has_device 0 device ≡ true → ⊥
-none_has device has = absurd (apart (sym has ∙ none_in device))
-  where
-    apart : true ≡ false → ⊥
-    apart same = cc
+none_has device has = cc (none_in device)
 
 -- Where no device is out now, none was before.
 pub none_before : (old new : ℕ) → IsWithin old new → new ≡ 0 → old ≡ 0
@@ -24,8 +21,7 @@ all_used out device whole = search (none_in, arith)
 pub target_data : (reflow : Reflow) (done : ℕ) (job : Job) (sector device device_sector : ℕ) → MayRun reflow done job
     → CopiesSector reflow job sector → IsTarget reflow job sector device device_sector → IsDataSector device_sector
 target_data reflow done Fill sector device device_sector may inside at = search (row_below, arith)
-target_data reflow done Drain sector device device_sector may inside at = inr (omega (arith, at.sector_is))
-target_data reflow done (Chunk lo hi) sector device device_sector may inside at = inr (omega (arith, at.sector_is))
+target_data reflow done other sector device device_sector may inside at = inr (omega (arith, at.sector_is))
 
 -- No place at which a sector that the job copies is required, nor where the job copies it to, is one of these.
 pub record IsJobOff (P : ℕ → ℕ → Type 0) (reflow : Reflow) (done : ℕ) (run : JobRun) : Type 0 where
@@ -56,10 +52,8 @@ module _ (P : ℕ → ℕ → Type 0) (reflow : Reflow) (done : ℕ) (run : JobR
     -- so it is copied still;
     inside_stays : CopiesSector reflow run.job cell.sector → HoldsJob reflow done run after [] cell
     inside_stays inside = run_stays reflow done run before after [] cell within
-        (λ device device_sector place used.
-        reads device device_sector used (⊎_elim
-        (search required_data) (search (target_data, arith)) place) (search arith))
-        (search (none_before, was_right, arith))
+        (λ device device_sector place used. reads device device_sector used (⊎_elim (search required_data)
+        (search (target_data, arith)) place) (search arith)) (search (none_before, was_right, arith))
 
     -- of another no more is asked.
     cell_stays : HoldsJob reflow done run after [] cell

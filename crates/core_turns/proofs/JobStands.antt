@@ -1,11 +1,12 @@
 -- What stands between two turns stands over each turn of a job, and so does what images keep.
-use Rattle.core_turns.proofs.Words.{◌≡◌, inr, ⊎_elim, ℕ, ◌<◌, ◌≤◌, List, [], ◌∷◌, Option, sym, ◌∙◌, ap, subst, arith, Contains, Disk, Lawful, Tells, TouchesOnly, Hold, Exclusive, Reflow, Layout, Gains, Fill, IsWithin, Uber, count_none, AreAlike, Map, Kept, Setting, IsSound, Point, point_of, IsSpare, IsRowOf, KeepsSince, Cell, RightAt, contains_cases, contains_none, contains_head, contains_tail, chooses, around_alone, around_begins, IsCommitChoice, copied_of, IsCellIn, IsClose, StandAround, CopiesSector, IsTarget, MovesMark, call_count, choice_moves, sound_close, job_at_front, job_spare, target_free, gains_cases, gains_item, gains_old, IsInPool, CommitRun, IsBeside, shown_at, Stage, Lays, sound_paged, begun_run, present_sector, HoldsJob, present_in, run_begins, run_steps, step_goes_on, target_at, listed_in_pool, CopyRun, PutRun, Core, CoreState, IsCore, as_begun, at_disk, HasBankOf, BeginsJobSo, CopiesCells, DropsJob, IsJobOf, StepsJob, HoldingCall, Putting, Reading, Copying, AreBeside, AreCallsOf, CommitStands, IsCallOfCore, NoCommitStands, Stands, shown_of}
+use Rattle.core_turns.proofs.Words.{◌≡◌, inl, HoldsCall, inr, ⊎_elim, ℕ, ◌<◌, ◌≤◌, List, [], ◌∷◌, Option, sym, ◌∙◌, ap, subst, arith, Contains, Disk, Lawful, Tells, TouchesOnly, Hold, Reflow, Layout, Gains, Fill, IsWithin, Uber, count_none, AreAlike, Map, Kept, Setting, IsSound, Point, point_of, IsSpare, IsRowOf, KeepsSince, Cell, RightAt, contains_cases, contains_none, contains_head, contains_tail, chooses, around_alone, around_begins, IsCommitChoice, copied_of, IsCellIn, IsClose, StandAround, CopiesSector, IsTarget, MovesMark, call_count, choice_moves, sound_close, job_at_front, job_spare, target_free, gains_cases, gains_item, gains_old, IsInPool, CommitRun, shown_at, Stage, Lays, sound_paged, begun_run, present_sector, HoldsJob, present_in, run_begins, run_steps, step_goes_on, target_at, listed_in_pool, CopyRun, PutRun, Core, CoreState, IsCore, as_begun, at_disk, HasBankOf, BeginsJobSo, CopiesCells, DropsJob, IsJobOf, StepsJob, HoldingCall, Putting, Reading, Copying, AreBeside, AreCallsOf, CommitStands, IsCallOfCore, Stands, shown_of}
 use Rattle.reflow_mark.specs.declared.reflow.State.TheVariants.{None as Unmoved}
 use Rattle.uberblock_ring.specs.Devices.{count_of}
 use Rattle.core_commit.specs.declared.commit_run.Stage.TheVariants.{Signs}
+use Rattle.core_turns.proofs.TakenBack.{each_gained}
 use Rattle.core_turns.proofs.Cores.{bank_has, bank_within}
 use Rattle.core_turns.proofs.Frames.{AreOff, IsCallOff, IsOff}
-use Rattle.core_turns.proofs.GetStands.{AddsNoPut, OnlyHeld, call_loses, stands_held}
+use Rattle.core_turns.proofs.GetStands.{AddsNoPut, call_loses, stands_held}
 use Rattle.core_turns.proofs.Holds.{alone_beside, alone_passes, KeepsAlone}
 use Rattle.core_turns.proofs.JobBeside.{off_target}
 use Rattle.core_turns.proofs.JobLaws.{all_used, target_data}
@@ -32,23 +33,15 @@ none_counted = count_none 64
 pub job_begins_alone : {old new : Core} {run : CopyRun} {actor : ℕ} → BeginsJobSo old new actor run
     → KeepsAlone old.pool.done old.holds new.holds
 job_begins_alone {old} {new} {run} begins hold exclusive =
-    alone_beside old.pool.done old.holds new.holds run.hold hold exclusive kind (omega (arith, lo)) begins.holds
-  where
-    kind : run.hold.kind ≡ Exclusive
-    kind = cc
-
-    lo : run.hold.lo ≡ old.pool.done
-    lo = search (job_at_front, due_runs, arith)
+    let lo : run.hold.lo ≡ old.pool.done = search (job_at_front, due_runs, arith) in
+    alone_beside old.pool.done old.holds new.holds run.hold hold exclusive (cc) (omega arith) begins.holds
 
 -- or of one that is given up.
 pub job_drops_alone : {old new : Core} {run : CopyRun} → IsCore old → DropsJob old new run → IsJobOf old run
     → KeepsAlone old.pool.done old.holds new.holds
 job_drops_alone {old} {new} {run} is drops of hold exclusive =
-    alone_passes old.pool.done old.pool.done old.holds new.holds run.hold hold exclusive
-    (cc) (omega (arith, lo)) (omega arith) (none_left is of drops.ends).1 drops.ends
-  where
-    lo : run.hold.lo ≡ old.pool.done
-    lo = hold_at_front of
+    alone_passes old.pool.done old.pool.done old.holds new.holds run.hold hold exclusive (cc)
+    (omega (arith, hold_at_front of)) (omega arith) (none_left is of drops.ends).1 drops.ends
 
 -- ---- what stands
 
@@ -60,21 +53,16 @@ module _ {setting : Setting} {last : Kept} {begun : List Kept} {map : Map} {cont
       → Stands setting last begun map contents left commit (at_disk old disk)
       → Stands setting last begun map contents calls commit (at_disk new disk)
   job_begins_stands {old} {new} {disk} {run} {left} {calls} actor is begins gains stands =
-      stands_held old new disk is only (job_begins_alone begins) (job_adds gains)
-      (λ call listed. ⊎_elim
-      (search (copies, arith))
-      (λ was. inr (stands.each call was)) (gains_cases left calls (Copying run) call gains listed)) stands
+      stands_held old new disk is (cc) (job_begins_alone begins) (job_adds gains)
+      (each_gained gains (inl copies) (λ call was. inr (stands.each call was))) stands
     where
-      only : OnlyHeld old new
-      only = cc
+      begins_cell : (cell : Cell) → RightAt disk.reads new.pool.uber.reflow new.pool.done new.pool.out [] cell
+          → HoldsJob new.pool.uber.reflow new.pool.done (begun_run old.pool.uber.reflow run.job.job)
+          (point_of new.pool.out disk) [] cell
+      begins_cell cell right = search (run_begins, arith)
 
-      copies : CopiesCells new.pool.uber.reflow new.pool.done run.job (point_of new.pool.out disk)
+      copies : HoldsCall (at_disk new disk) [] (Copying run)
       copies = search (begins_cell, arith)
-        where
-          begins_cell : (cell : Cell) → RightAt disk.reads new.pool.uber.reflow new.pool.done new.pool.out [] cell
-              → HoldsJob new.pool.uber.reflow new.pool.done (begun_run old.pool.uber.reflow run.job.job)
-              (point_of new.pool.out disk) [] cell
-          begins_cell cell right = search (run_begins, arith)
 
   -- A job is given up: the others stand as they did.
   pub job_drops_stands : {old new : Core} {disk : Disk} {run : CopyRun} {left calls : List HoldingCall} → IsCore old
@@ -82,11 +70,8 @@ module _ {setting : Setting} {last : Kept} {begun : List Kept} {map : Map} {cont
       → Stands setting last begun map contents calls commit (at_disk old disk)
       → Stands setting last begun map contents left commit (at_disk new disk)
   job_drops_stands {old} {new} {disk} is drops of gains stands =
-      stands_held old new disk is only (job_drops_alone is drops of) (call_loses gains)
+      stands_held old new disk is (cc) (job_drops_alone is drops of) (call_loses gains)
       (λ call listed. inr (stands.each call (search gains_old))) stands
-    where
-      only : OnlyHeld old new
-      only = cc
 
 -- ---- a step
 
@@ -129,8 +114,7 @@ module _ {before after : CoreState} {run next : CopyRun} (is : IsCore before.cor
       search (off_target, inside, at_target)
 
   table_off : AreOff places before.core
-  table_off entry listed = layout_off
-      (listed_in_pool (as_begun before.core) entry is.is is.step listed)
+  table_off entry listed = layout_off (listed_in_pool (as_begun before.core) entry is.is is.step listed)
 
   -- and so is what other calls rely on.
   call_off : (call : HoldingCall) → AreBeside (Copying run) call → IsCallOfCore before.core call
@@ -165,11 +149,7 @@ module _ {before after : CoreState} {run next : CopyRun} (is : IsCore before.cor
     last_reflow : last.uber.reflow ≡ reflow
     last_reflow = sym (ap (λ (u : Uber). u.reflow) alike)
 
-    -- A cell of the last group is close,
-    last_close : IsSound setting last → (cell : Cell) → IsCellIn last cell → IsClose reflow cell
-    last_close sound cell its = rw last_reflow at (sound_close setting last cell sound its)
-
-    -- so it stands around the mark.
+    -- The last group stands around the mark.
     last_around : IsSound setting last → StandAround reflow (copied_of reflow done) (last ∷ [])
     last_around sound = subst (λ (r : Reflow). StandAround r (copied_of r done) (last ∷ [])) last_reflow
         (search (around_alone, last_reflow, sound_close))
@@ -184,15 +164,7 @@ module _ {before after : CoreState} {run next : CopyRun} (is : IsCore before.cor
     spare_of later sound around unmoved device device_sector written =
         search (job_spare, sound_paged, inside, at_target)
 
-    -- Without a commit,
-    spare_alone : NoCommitStands setting last begun before → (device device_sector : ℕ) → places device device_sector
-        → IsSpare setting last begun device device_sector
-    spare_alone groups device device_sector written =
-        subst (λ (later : List Kept). IsSpare setting last later device device_sector) (sym (groups.whole few).0)
-        (spare_of [] groups.knows.sound (last_around groups.knows.sound)
-        (search (last_unmoved, contains_none, contains_cases, arith)) device device_sector written)
-
-    -- and beside one, whose group is another of the row.
+    -- Beside a commit its group is another of the row.
     module _ (commit : CommitRun) (groups : CommitStands setting last begun calls commit before) where
       choice : (holds : List Hold) × IsCommitChoice reflow done holds commit.uber.reflow
       choice = chooses reflow done commit.uber.reflow of.goes.widening.expands groups.of.next.choice
@@ -233,17 +205,20 @@ module _ {before after : CoreState} {run next : CopyRun} (is : IsCore before.cor
                 (search (contains_head, contains_none, contains_cases, arith));
           }
 
-      beside_both : IsBeside setting last groups.next places
-      beside_both = record {
-        region = λ device device_sector written. search (target_data, inside, at_target);
-        not_first = λ device device_sector bytes written. (spare_both device device_sector written).cells last bytes
-            (contains_head last (groups.next ∷ []));
-        not_next = λ device device_sector bytes written. (spare_both device device_sector written).cells groups.next
-            bytes (search (contains_tail, contains_head));
-      }
-
+    -- So nobody asks for what the job writes.
     spare_now : AreSpare places setting last begun calls before
-    spare_now = search (spare_alone, spare_shown, beside_both)
+    spare_now = record {
+      alone = λ groups. rw (groups.whole few).0 (spare_of [] groups.knows.sound (last_around groups.knows.sound)
+          (search (last_unmoved, contains_none, contains_cases, arith)));
+      shown = λ commit groups. spare_shown commit groups commit.stage;
+      beside = λ commit groups. record {
+        region = λ device device_sector written. search (target_data, inside, at_target);
+        not_first = λ device device_sector bytes written. (spare_both commit groups device device_sector written).cells
+            last bytes (contains_head last (groups.next ∷ []));
+        not_next = λ device device_sector bytes written. (spare_both commit groups device device_sector written).cells
+            groups.next bytes (search (contains_tail, contains_head));
+      };
+    }
 
   -- ---- all that stands
 
@@ -266,5 +241,4 @@ module _ {before after : CoreState} {run next : CopyRun} (is : IsCore before.cor
         → KeepsSince setting groups time before.disk → KeepsSince setting groups time after.disk
     job_steps_since groups time row =
         since_written after touched within lawful few (spare_now setting last begun calls stands.alike) commit groups
-        time
-        row stands.groups
+        time row stands.groups

@@ -1,5 +1,5 @@
 -- A put goes on in a pool whose reflow or front has moved, where that asks for its block at the places at which it did.
-use Rattle.core_turns.proofs.Words.{◌≡◌, ℕ, ◌+◌, ◌≤◌, List, Contains, Disk, Reflow, Layout, Write, Rows, IsFrontOf, IsRangeFor, IsInPool, IsRightBlock, IsPlanOf, PutRun, Core, at_disk, AsksAlike, HoldsPut, IsPutOf}
+use Rattle.core_turns.proofs.Words.{◌≡◌, ℕ, ◌+◌, ◌≤◌, List, Contains, Disk, Reflow, Layout, Write, Rows, IsFrontOf, IsRangeFor, IsInPool, IsRightBlock, IsPlanOf, PutRun, Core, at_disk, AsksAlike, HoldsPut, IsPutOf, arith}
 
 -- A plan is one at the places at which the block is asked for now.
 pub plan_moves : {layout : Layout} {reflow other : Reflow} {done front : ℕ} {content : List ℕ} {rows : Rows}
@@ -43,7 +43,7 @@ module _ (core new : Core) (put : PutRun) (its : IsPutOf core put)
     places = λ row column there device device_sector.
         let before = its.places row column there device device_sector in
         let now = alike row column there device device_sector in
-        (λ asked. now.0 (before.0 asked), λ asked. before.1 (now.1 asked));
+        search (now.0, before.0, before.1, now.1, arith);
     range = range;
     born = (its.born.0, born);
     len = its.len;

@@ -1,5 +1,5 @@
 -- Which calls are under way over each turn of a put.
-use Rattle.core_turns.proofs.Words.{◌≡◌, ◌≢◌, ℕ, ◌+◌, List, length, Option, Some, sym, ◌∙◌, ap, arith, Contains, Hold, Shared, Overlaps, Gains, put_run, gains_item, gains_old, free_of_taken, Filled, PutRun, Core, CoreState, BeginsPutSo, FillsPut, GivesUp, IsPutOf, LeavesBlocks, StoresBlock, WritesOne, HoldingCall, Putting, Reading, Copying, AreCallsOf, HaveNoneInCommon, IsCallOfCore, actor_of, ranges_of}
+use Rattle.core_turns.proofs.Words.{◌≡◌, ◌≢◌, ℕ, ◌+◌, List, length, Option, Some, arith, Contains, Shared, Overlaps, Gains, put_run, gains_item, gains_old, free_of_taken, Filled, PutRun, Core, CoreState, BeginsPutSo, FillsPut, GivesUp, IsPutOf, LeavesBlocks, StoresBlock, WritesOne, HoldingCall, Putting, Reading, Copying, AreCallsOf, HaveNoneInCommon, IsCallOfCore, actor_of, ranges_of}
 use Rattle.core_turns.proofs.Calls.{calls_gain, calls_lose, calls_swap, range_listed}
 use Rattle.core_turns.proofs.Frames.{KeepsCalls, calls_keep, calls_stay}
 use Rattle.core_turns.proofs.PutRanges.{at_end, ranges_gain, under_moved}
@@ -46,15 +46,9 @@ pub put_begins_calls : {old new : Core} {actor id len : ℕ} {run : PutRun} {lef
     → AreCallsOf old left → AreCallsOf new calls
 put_begins_calls {old} {new} {run = run} {left} begins differs gains are =
     calls_gain gains (search (rearranged_keeps, begins_rearranges)) (search gains_old)
-    (under_moved (at_end (ranges_of left) run.range) (ranges_gain gains) (begins.under (ranges_of left) are.under))
-    begins.of
-    (λ other listed. record {
-      actors = λ same. differs other listed (sym same ∙ ap (λ (hold : Hold). hold.actor) begins.hold_is);
-      apart = apart other listed (are.each other listed);
-    }) are
+    (search (under_moved, at_end, ranges_gain, begins.under, arith)) begins.of (grind (arith, apart)) are
   where
-    apart : (other : HoldingCall) → Contains left other → IsCallOfCore old other
-        → HaveNoneInCommon (Putting run) other
+    apart : (other : HoldingCall) → Contains left other → IsCallOfCore old other → HaveNoneInCommon (Putting run) other
     apart (Putting other) listed of = free_of_taken old.pool.blocks.space old.holds (put_run run.range)
         begins.begins.first.free (put_run other.range) (are.under.each other.range
         (range_listed left other listed)).taken
@@ -87,8 +81,15 @@ ends_rearranges old new run ends = record { rest = ends.rest; parity = ends.pari
 -- and leaves the others under way;
 pub put_ends_calls : {old new : Core} {run : PutRun} {left calls : List HoldingCall} → StoresBlock old new run
     → Gains left calls (Putting run) → AreCallsOf old calls → AreCallsOf new left
-put_ends_calls ends gains are = calls_lose gains (search (rearranged_keeps, ends_rearranges)) ends.ends
-    (ends.under _ _ (ranges_gain gains) are.under) are
+put_ends_calls ends gains are = search (
+  calls_lose,
+  rearranged_keeps,
+  ends_rearranges,
+  ranges_gain,
+  ends.ends,
+  ends.under,
+  arith,
+)
 
 -- so does one that is given up.
 pub gives_up_rearranges : (old new : Core) (run : PutRun) → GivesUp old new run → Rearranges old new
@@ -97,8 +98,15 @@ gives_up_rearranges old new run gives_up =
 
 pub put_gives_up_calls : {old new : Core} {run : PutRun} {left calls : List HoldingCall} → GivesUp old new run
     → Gains left calls (Putting run) → AreCallsOf old calls → AreCallsOf new left
-put_gives_up_calls gives_up gains are = calls_lose gains (search (rearranged_keeps, gives_up_rearranges)) gives_up.ends
-    (gives_up.under _ _ (ranges_gain gains) are.under) are
+put_gives_up_calls gives_up gains are = search (
+  calls_lose,
+  rearranged_keeps,
+  gives_up_rearranges,
+  ranges_gain,
+  gives_up.ends,
+  gives_up.under,
+  arith,
+)
 
 -- ---- a put goes on
 
@@ -121,7 +129,7 @@ pub put_fills_calls : {core : Core} {run next : PutRun} {bytes : List ℕ} {left
     → Gains left nexts (Putting next) → AreCallsOf core calls → AreCallsOf core nexts
 put_fills_calls {core} {run} {next} {bytes} {left} {calls} fills len_is gains again are =
     next_calls (Some fills.filled) (rw fills.rest at (fills_of core run next bytes fills len_is
-    (are.each (Putting run) (gains_item left calls (Putting run) gains)))) gains (search arith) are
+    (search (gains_item, are.each, arith)))) gains (search arith) are
 
 -- One write more is made or passed over.
 pub put_writes_calls : {before after : CoreState} {run next : PutRun} {left calls nexts : List HoldingCall}
@@ -129,5 +137,5 @@ pub put_writes_calls : {before after : CoreState} {run next : PutRun} {left call
     → AreCallsOf before.core calls → AreCallsOf after.core nexts
 put_writes_calls {before} {after} {run} {left = left} {calls} {nexts} writes gains again are =
     calls_stay before.core after.core nexts writes.rest (outs_by_write writes.made).still
-    (next_calls (Some (written writes.filled)) (written_of before.core run writes.filled writes.write writes.filled_is
-    writes.write_is (are.each (Putting run) (gains_item left calls (Putting run) gains))) gains (search arith) are)
+    (next_calls (Some (written writes.filled)) (search (written_of, gains_item, are.each, arith)) gains
+    (search arith) are)

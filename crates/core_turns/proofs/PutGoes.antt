@@ -73,9 +73,7 @@ module _ (core : Core) (filled : Filled) {out : ℕ} {old new : Disk}
   put_writes_core is of filled_is =
       let next = next_write filled.write.writes filled.write.next low in
       let did = step next.0 next.1 in
-      let inside : next.0.device < core.pool.uber.reflow.to = write_below of filled_is {write = next.0}
-      (search listed_at)
-      in
+      let inside : next.0.device < core.pool.uber.reflow.to = search (write_below, listed_at, arith) in
       core_out core out is (below_by_write filled.write.rows next.0 (point_of core.pool.out old) (point_of out new)
       core.reach did (omega arith) is.below) (outs_by_write did).still
 

@@ -1,5 +1,6 @@
 -- The ranges of the puts under way: it does not matter which comes first.
-use Rattle.core_turns.proofs.Words.{◌≡◌, ℕ, ◌+◌, List, [], ◌∷◌, ◌++◌, ◌∙◌, arith, inl, inr, ⊎_elim, append-nil, Contains, ◌==◌, sum_by, filter_map-append, sum_by-append, Gains, PutRange, Blocks, AreUnderWay, put_run, AreClear, gains_item, gains_old, gains_cases, pairs_gain, pairs_lose, pairs_beside, clear_turned, PutRun, HoldingCall, Putting, ranges_of}
+use Rattle.core_turns.proofs.Words.{◌≡◌, ℕ, ◌+◌, List, [], ◌∷◌, ◌++◌, ◌∙◌, arith, inl, inr, ⊎_elim, append-nil, Contains, ◌==◌, sum_by, filter_map-append, sum_by-append, Gains, PutRange, Blocks, AreUnderWay, put_run, AreClear, gains_item, gains_old, pairs_gain, pairs_lose, pairs_beside, clear_turned, PutRun, HoldingCall, Putting, ranges_of}
+use Rattle.core_turns.proofs.TakenBack.{each_gained}
 use Rattle.std.proofs.Common.{cond}
 
 -- A list that gains an item has its weight more.
@@ -15,8 +16,7 @@ sum_gained weight {x = x} there = rw (
 module _ {T : Type 0} (left one other : List T) (x : T) (there : Gains left one x) (here : Gains left other x) where
   -- Two lists that gained the same item contain the same,
   pub gains_moved : (y : T) → Contains one y → Contains other y
-  gains_moved y listed = ⊎_elim (λ same. rw same at (gains_item left other x here))
-      (λ old. gains_old left other x y here old) (gains_cases left one x y there listed)
+  gains_moved = each_gained there (gains_item left other x here) (λ y old. gains_old left other x y here old)
 
   -- and their sums are the same.
   gains_sum : (weight : T → ℕ) → sum_by weight one ≡ sum_by weight other

@@ -61,7 +61,7 @@ stands_on {setting} {last} {begun} {nows = nows} {calls} {nexts} {commit} {old} 
       tells = stands.tells;
       bank = stands.bank;
       holds = rw change.rest at held;
-      each = λ call listed. ⊎_elim (λ now. rw change.rest at now) (holds_on call) (each call listed);
+      each = search (holds_on, arith);
     })
   where
     spares_on : (group : Kept) → PutsSpare (at_disk old disk) nexts group
@@ -84,9 +84,9 @@ stands_on {setting} {last} {begun} {nows = nows} {calls} {nexts} {commit} {old} 
         record {
           next = groups.next;
           begun_is = groups.begun_is;
-          of = commit_still old (rearranged old new) leaves groups.of;
+          of = search (commit_still, arith);
           come = groups.come;
-          lies = lies_still old (rearranged old new) leaves groups.lies;
+          lies = search (lies_still, arith);
           kept = next_kept.0;
           spared = spares_on groups.next next_kept.1;
         }
@@ -99,7 +99,7 @@ pub stands_with : {setting : Setting} {last : Kept} {begun : List Kept} {map : M
     → Stands setting last begun map contents calls commit state → Stands setting last begun map nows nexts commit state
 stands_with {state = state} spared each stands =
     stands_on {old = state.core} {disk = state.disk} (record { rest = refl; parity = refl; births = refl })
-    (search (keeps_same, arith)) (λ past group at none spares. (none, spared group spares)) stands.holds
+    (search (keeps_same, arith)) (search arith) stands.holds
     (λ call listed. inr (each call listed)) stands
 
 -- ---- a put
@@ -141,16 +141,13 @@ module _ {setting : Setting} {last : Kept} {begun : List Kept} {map : Map} {cont
         λ one listed. ⊎_elim (λ (same : Putting run ≡ Putting one). rw (← same_put same)
             (begins.spares past group.entries none))
             (λ there. spares one there) (gains_cases left calls (Putting run) (Putting one) gains listed),
-      ))
-      (search map_on)
+      )) (search map_on)
       (λ call listed. inr (⊎_elim
       (λ same. rw (← same, ap nows (ap (λ (h : Hold). h.actor) begins.hold_is) ∙ sets.own) (record {
         len_is = len_is ∙ sym begins.len_is;
         are_bytes = bytes;
         so_far = λ filled is. cc;
-      }))
-      (λ there. rw (sets.others (actor_of call) (differs call there)) (stands.each call there))
-      (gains_cases left calls (Putting run) call gains listed))) stands
+      })) (search (sets.others, stands.each, arith)) (gains_cases left calls (Putting run) call gains listed))) stands
 
   -- A refusal leaves all calls.
   pub put_refused_stands : {calls : List HoldingCall} {old new : Core} {disk : Disk} → LeavesBlocks old new
@@ -158,9 +155,7 @@ module _ {setting : Setting} {last : Kept} {begun : List Kept} {map : Map} {cont
       → Stands setting last begun map contents calls commit (at_disk new disk)
   put_refused_stands {old = old} {new} leaves stands =
       let change = leaves_rearranges old new leaves in
-      stands_on (calls_none change) (search (keeps_same, arith))
-      (λ past group is none spares. (leaves.kept past group.entries none, spares)) (search map_on)
-      (λ call listed. inr (stands.each call listed)) stands
+      stands_on (calls_none change) (search (keeps_same, arith)) (search arith) (search map_on) (search arith) stands
 
   -- A put that is given up leaves the others.
   pub put_gives_up_stands : {left calls : List HoldingCall} {old new : Core} {disk : Disk} {run : PutRun}
@@ -169,12 +164,8 @@ module _ {setting : Setting} {last : Kept} {begun : List Kept} {map : Map} {cont
       → Stands setting last begun map contents left commit (at_disk new disk)
   put_gives_up_stands {left} {calls} {old} {new} {disk} {run} gives_up gains are stands =
       let change = gives_up_rearranges old new run gives_up in
-      stands_on (calls_none change)
-      (put_ends_alone old new run (are.each (Putting run) (gains_item left calls (Putting run) gains)) gives_up.ends)
-      (λ past group is none spares. (
-        gives_up.kept past group.entries (search (spares, gains_item)) none,
-        λ one listed. search (spares, gains_old),
-      ))
+      stands_on (calls_none change) (search (put_ends_alone, gains_item, are.each, arith))
+      (search (gains_item, gains_old, gives_up.kept, arith))
       (search map_on) (λ call listed. inr (stands.each call (search gains_old))) stands
 
 -- A put has no sector in common with a block that the table lists.
@@ -196,10 +187,7 @@ pub put_ends_stands : {setting : Setting} {last : Kept} {begun : List Kept} {map
     commit (at_disk new disk)
 put_ends_stands {map = map} {contents} {left = left} {calls} {old} {new} {disk} {run} is ends whole gains are stands =
     stands_on (calls_none (ends_rearranges old new run ends)) (put_ends_alone old new run of ends.ends)
-    (λ past group kept none spares. (
-      ends.kept past group.entries (past_below old past is kept) none,
-      λ one listed. search (spares, gains_old),
-    ))
+    (search (past_below, gains_old, ends.kept, arith))
     held (λ call listed. inr (stands.each call (search gains_old))) stands
   where
     content : List ℕ
@@ -228,8 +216,7 @@ put_ends_stands {map = map} {contents} {left = left} {calls} {old} {new} {disk} 
         let now = put_holds (state_of (as_begun old) disk)
         (state_of (record (as_begun old) { blocks = new.pool.blocks }) disk) is.is is.step run.range.layout refl refl
         (λ device out. out) of.pool
-        (λ other listed. listed_clear old run.range other is
-        (are.under.each run.range (range_listed calls run its_calls)) listed) (search touches_none) map
+        (search (listed_clear, range_listed, its_calls, are.under.each, arith)) (search touches_none) map
         (filled_entry run ends.filled) content ends.change
         (record { len = sym holds.len_is; digest = (holds.so_far ends.filled ends.filled_is).0 }) holds.are_bytes read
         was in

@@ -95,8 +95,7 @@ pub put_refused : {core : Core} {after : Blocks} (actor id len : ℕ) (why : Put
     → IsPutCause core.pool.blocks core.holds id
     (sectors_taken core.pool.blocks.parity core.pool.blocks.births len (core.begun + 1)) why
     → BeginsPutTurn core (record core { pool = record core.pool { blocks = after } }) actor id len (refused_turn why)
-put_refused {core} {after} actor id len why is few same under kept cause = by why
-    (rw (is.is.parity, is.is.births) at cause)
+put_refused {core} {after} actor id len why is few same under kept cause = search (by, arith)
   where
     leaves : LeavesBlocks core (record core { pool = record core.pool { blocks = after } })
     leaves = search (adds_none, arith)

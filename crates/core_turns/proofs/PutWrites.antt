@@ -1,5 +1,5 @@
 -- What stands between two turns stands over each write of a put, and so does what images keep.
-use Rattle.core_turns.proofs.Words.{◌≡◌, ⊎_elim, ℕ, ◌≤◌, List, [], ◌∷◌, Option, Some, refl, sym, ap, subst, arith, Contains, cases_lt, Lawful, TouchesOnly, Reflow, Layout, stop_asks_no_more, writes_of, are_required, Gains, IndexEntry, count_of, Uber, Map, layout_of, Kept, Setting, IsSound, point_of, IsSpare, IsRowOf, KeepsSince, contains_cases, contains_none, IsDataSector, data_is_no_page, page_place, layout_run, put_run, SparesAll, AreClear, gains_item, OnlyFailedGoOut, IsInPool, listed_at, written_more, Stage, Lays, CommitRun, shown_at, shown_by, sound_paged, listed_in_pool, entry_in_pool, tells_at, PutRun, CoreState, IsCore, as_begun, IsPutOf, HoldsPut, WritesOne, HoldingCall, Putting, Reading, Copying, AreBeside, AreCallsOf, CommitStands, IsCallOfCore, PutsSpare, Stands, shown_of}
+use Rattle.core_turns.proofs.Words.{◌≡◌, ⊎_elim, ℕ, ◌≤◌, List, [], ◌∷◌, Option, Some, sym, subst, arith, Contains, cases_lt, Lawful, TouchesOnly, Reflow, Layout, stop_asks_no_more, writes_of, are_required, Gains, IndexEntry, count_of, Uber, Map, layout_of, Kept, Setting, IsSound, point_of, IsSpare, IsRowOf, KeepsSince, contains_cases, contains_none, IsDataSector, data_is_no_page, page_place, layout_run, put_run, SparesAll, AreClear, gains_item, OnlyFailedGoOut, IsInPool, listed_at, written_more, Stage, Lays, CommitRun, shown_at, shown_by, sound_paged, listed_in_pool, entry_in_pool, tells_at, PutRun, CoreState, IsCore, as_begun, IsPutOf, HoldsPut, WritesOne, HoldingCall, Putting, Reading, Copying, AreBeside, AreCallsOf, CommitStands, IsCallOfCore, PutsSpare, Stands, shown_of}
 use Rattle.core_commit.specs.declared.commit_run.Stage.TheVariants.{Signs}
 use Rattle.core_turns.proofs.Beside.{IsWrittenTo, AreInPool, never_asked, put_beside_commit, required_data}
 use Rattle.core_turns.proofs.CommitEnds.{layout_same}
@@ -61,7 +61,7 @@ module _ {left calls : List HoldingCall} {before after : CoreState} {run next : 
 
     -- so nothing is touched but the block's places.
     touched : TouchesOnly places before.disk after.disk
-    touched = touches_by_write places (λ used. (writes.write, write_listed, used, refl, refl)) writes.made
+    touched = touches_by_write places (search (write_listed, arith)) writes.made
 
     -- Blocks that have no sector of the put are off it: those of other calls,
     off : (other : Layout) → IsInPool other reflow → AreClear (layout_run layout) (layout_run other)
@@ -70,16 +70,15 @@ module _ {left calls : List HoldingCall} {before after : CoreState} {run next : 
 
     calls_off : (call : HoldingCall) → AreBeside (Putting run) call → IsCallOfCore before.core call
         → IsCallOff places reflow done call
-    calls_off (Putting other) beside its = off other.range.layout its.pool beside.apart
-    calls_off (Reading other) beside its = off other.read.layout its.1.pool beside.apart
-    calls_off (Copying other) beside its = job_off_written before.core.pool.out of its beside.apart
+    calls_off (Putting other) beside its = search (off, arith)
+    calls_off (Reading other) beside its = search (off, arith)
+    calls_off (Copying other) beside its = search (job_off_written, of, arith)
 
     -- and those of the table.
     table_off : AreOff places before.core
     table_off entry listed = off (layout_of before.core.pool.uber.parity before.core.pool.uber.births entry)
         (listed_in_pool (as_begun before.core) entry is.is is.step listed)
-        (listed_clear before.core run.range entry is (are.under.each run.range (range_listed calls run its_calls))
-        listed)
+        (search (listed_clear, range_listed, its_calls, are.under.each, arith))
 
     -- ---- what it writes
 
@@ -88,7 +87,6 @@ module _ {left calls : List HoldingCall} {before after : CoreState} {run next : 
     holds_further =
         let was : HoldsPut (contents run.hold.actor) before run = stands.each (Putting run) its_calls in
         let so_far = was.so_far writes.filled writes.filled_is in
-        let tells = stands.tells in
         rw writes.next_is (record {
           len_is = was.len_is;
           are_bytes = was.are_bytes;
@@ -107,7 +105,7 @@ module _ {left calls : List HoldingCall} {before after : CoreState} {run next : 
 
     -- So it is clear of the last one,
     last_clear : IsSound setting last → IsClearOf layout reflow done last
-    last_clear sound = let same = ap (λ (u : Uber). u.reflow) stands.alike in record {
+    last_clear sound = record {
       inside = record {
         asked = λ row_end sector device device_sector inside place. search (stop_asks_no_more, arith);
         each = search (entry_in_pool, arith);
@@ -124,7 +122,7 @@ module _ {left calls : List HoldingCall} {before after : CoreState} {run next : 
         asked = λ row_end sector device device_sector inside place.
             (core_follows before.core commit.uber.reflow is groups.of.next.choice).stop row_end sector device
             device_sector inside (search arith);
-        each = λ entry listed. rw (same entry listed) (groups.lies.inside entry listed);
+        each = search (same, arith);
       };
       spares = λ entry listed. subst (λ (l : Layout). AreClear (put_run run.range) (layout_run l))
           (sym (same entry listed)) (search spares_now);
@@ -156,8 +154,7 @@ module _ {left calls : List HoldingCall} {before after : CoreState} {run next : 
     -- so nobody asks for what it writes: without a commit, and beside one.
     spare_now : AreSpare places setting last begun calls before
     spare_now = record {
-      alone = λ groups. rw (groups.whole few).0 (spare_of [] groups.knows.sound
-          (λ kept none. absurd (contains_none kept none)));
+      alone = λ groups. rw (groups.whole few).0 (spare_of [] groups.knows.sound (search (contains_none, arith)));
       shown = λ commit groups. spare_of (shown_by groups.next commit) groups.come.sound_first
           (λ kept later. rw (shown_next groups.next commit.stage kept later) (next_clear commit groups));
       beside = λ commit groups.

@@ -4,9 +4,9 @@ use Rattle.core_turns.proofs.Words.{◌≡◌, inl, inr, ℕ, ◌+◌, ◌-◌, 
 use Rattle.reflow_mark.specs.declared.reflow.State.TheVariants.{None}
 
 -- A row ends in the sectors of its block.
-row_ends : (layout : Layout) (row column : ℕ) → IsLayout layout → IsColumn layout row column
+row_ends : {layout : Layout} {row column : ℕ} → IsLayout layout → IsColumn layout row column
     → end_of layout row ≤ layout.start + total_of layout
-row_ends layout row column is there =
+row_ends {layout} {row} is there =
     let last = inside layout row (columns_in layout row - 1) is (search arith) in
     omega arith
 
@@ -19,7 +19,7 @@ pub row_outside : (lo hi : ℕ) (layout : Layout) (row column : ℕ) → IsLayou
     → IsBlockOutside lo hi layout → IsOutside lo hi layout.start (end_of layout row)
 row_outside lo hi layout row column is there (inl empty) = inl empty
 row_outside lo hi layout row column is there (inr (inl before)) =
-    let ends = row_ends layout row column is there in search arith
+    let ends = row_ends is there in search arith
 row_outside lo hi layout row column is there (inr (inr behind)) = inr (inr behind)
 
 -- Such a block is asked for at the same places behind the answer.
@@ -28,7 +28,7 @@ pub block_alike : (reflow : Reflow) (done : ℕ) (chosen : Reflow) (layout : Lay
     → AsksAlike layout reflow done chosen (front_behind reflow done chosen)
 block_alike reflow done chosen layout stand pool outside row column there =
     stand layout.start (end_of layout row) (sector_of layout row column) (omega arith) (search arith)
-    (omega (arith, row_ends layout row column pool.within.is there, pool.end)) (search row_outside)
+    (omega (arith, row_ends pool.within.is there, pool.end)) (search row_outside)
 
 -- ---- where a row is read
 
@@ -60,9 +60,7 @@ module _ (from to rows mark done : ℕ) (holds : List Hold) (first row_end secto
 
   -- A row outside the sectors from 0 on to a mark ends above it.
   beyond : (hi : ℕ) → IsOutside 0 hi first row_end → hi < row_end
-  beyond hi (inl empty) = omega arith
-  beyond hi (inr (inl before)) = absurd (omega arith)
-  beyond hi (inr (inr behind)) = omega arith
+  beyond hi outside = grind arith
 
   same_stays : (state : State) (chosen : Reflow) → chosen ≡ at state → Stays state chosen
   same_stays state chosen same outside = cc
@@ -91,17 +89,11 @@ module _ (from to rows mark done : ℕ) (holds : List Hold) (first row_end secto
   moved_to_stays next true low high = ended_stays low
   moved_to_stays next false low high = moved_stays next high
 
-  rests : Moved ≡ None → ⊥
-  rests same = cc
-
-  drains : Valid ≡ None → ⊥
-  drains same = cc
-
   in_state : (state : State) (chosen : Reflow) → IsRightReflow (at state) → IsFrontOf (at state) done
       → IsChoiceIn state (at state) done holds chosen → Stays state chosen
   in_state None chosen right front choice = search (valid_stays, same_stays, arith)
-  in_state Valid chosen right front choice = search (drained_stays, drains, same_stays, arith)
-  in_state Moved chosen right front choice = search (rests, moved_to_stays, next_mark_between, arith)
+  in_state Valid chosen right front choice = search (drained_stays, same_stays, arith)
+  in_state Moved chosen right front choice = search (moved_to_stays, next_mark_between, arith)
 
 -- A column of such a block is read where it was read.
 pub spot_stays : (reflow : Reflow) (done : ℕ) (chosen : Reflow) (layout : Layout) (row column : ℕ)
@@ -110,15 +102,11 @@ pub spot_stays : (reflow : Reflow) (done : ℕ) (chosen : Reflow) (layout : Layo
     → IsColumn layout row column → spot_of layout chosen row column ≡ spot_of layout reflow row column
 spot_stays reflow done chosen layout row column pool front (Chooses holds choice) outside there =
     rw ends_there at (in_state reflow.from reflow.to reflow.rows reflow.mark done holds layout.start (end_of layout row)
-    (sector_of layout row column) (let low = there.column_in in omega (arith, low))
-    (let ends = row_ends layout row column pool.within.is there in let end = pool.end in omega (arith, ends, end))
-    reflow.state chosen pool.right front choice
-    (row_outside (range_of_commit reflow chosen).0 (range_of_commit reflow chosen).1 layout row column pool.within.is
-    there outside))
+    (sector_of layout row column) (omega (arith, there.column_in))
+    (omega (arith, row_ends pool.within.is there, pool.end)) reflow.state chosen pool.right front choice
+    (search row_outside))
   where
     ends_there : end_of layout row ≡ sector_of layout row 0 + columns_in layout row
     ends_there = omega arith
-spot_stays reflow done chosen layout row column pool front (Widens wider) outside there = search (unmoved, arith)
-  where
-    unmoved : reflow.state ≡ None
-    unmoved = search arith
+spot_stays reflow done chosen layout row column pool front (Widens wider) outside there =
+    let unmoved : reflow.state ≡ None = search arith in search arith

@@ -1,5 +1,5 @@
 -- A write to sectors that no group asks for leaves the groups, what images keep of them, and all else that stands.
-use Rattle.core_turns.proofs.Words.{◌≡◌, ⊎_elim, ℕ, ◌≤◌, List, [], ◌∷◌, Option, Some, None, refl, ◌∙◌, ap, subst, Lawful, TouchesOnly, Gains, IsWithin, IsFrontOf, count_of, Kept, Map, Setting, point_of, IsSpare, IsRowOf, KeepsSince, gains_old, gains_cases, pairs_beside, touched_knows, touched_since, Stage, Lays, CommitRun, IsBeside, shown_at, shown_by, committing_knows, committing_touched, CoreState, at_disk, HoldingCall, AreBeside, AreCallsOf, CommitStands, GroupsStand, HoldsCall, IsCallOfCore, NoCommitStands, PutsSpare, Stands, actor_of, shown_in, shown_of}
+use Rattle.core_turns.proofs.Words.{◌≡◌, ⊎_elim, ℕ, ◌≤◌, List, [], ◌∷◌, Option, Some, None, refl, ◌∙◌, ap, Lawful, TouchesOnly, Gains, IsWithin, IsFrontOf, count_of, Kept, Map, Setting, IsSpare, IsRowOf, KeepsSince, gains_old, gains_cases, pairs_beside, touched_knows, touched_since, Stage, Lays, CommitRun, IsBeside, shown_at, shown_by, committing_knows, committing_touched, CoreState, at_disk, HoldingCall, AreBeside, AreCallsOf, CommitStands, GroupsStand, HoldsCall, IsCallOfCore, NoCommitStands, PutsSpare, Stands, actor_of, shown_in, shown_of, arith}
 use Rattle.core_commit.specs.declared.commit_run.Stage.TheVariants.{Signs}
 use Rattle.core_turns.proofs.Calls.{beside_turn}
 use Rattle.core_turns.proofs.Frames.{AreOff, IsCallOff, Leaves, OnlyOut, call_stays, leaves_touched}
@@ -35,28 +35,16 @@ module _ {before : CoreState} (after : CoreState) {P : ℕ → ℕ → Type 0} (
       → ((group : Kept) → PutsSpare before calls group → PutsSpare before nexts group)
       → GroupsStand setting last begun calls commit before
       → GroupsStand setting last begun nexts commit (written_by before after)
-  groups_written nexts None still_lawful fewer groups = record {
-    knows = touched_knows P touched setting last begun lawful (spare.alone groups) groups.knows;
-    whole = λ few_after. groups.whole few;
-  }
-  groups_written nexts (Some commit) still_lawful fewer groups = record {
-    next = groups.next;
-    begun_is = groups.begun_is;
-    of = search (commit_still, out_leaves);
-    come = committing_touched setting last groups.next P commit (point_of before.core.pool.out before.disk)
-        (point_of after.core.pool.out after.disk) (spare.beside commit groups) touched within still_lawful groups.come;
-    lies = search (lies_still, out_leaves);
-    kept = groups.kept;
-    spared = fewer groups.next groups.spared;
-  }
+  groups_written nexts None still_lawful fewer groups = search (touched_knows, spare.alone, groups.whole, arith)
+  groups_written nexts (Some commit) still_lawful fewer groups = search
+      (commit_still, out_leaves, committing_touched, lies_still, spare.beside, arith)
 
   -- and what each image keeps.
   pub since_written : (commit : Option CommitRun) (groups : List Kept) (time : ℕ)
       → IsRowOf groups last (shown_of begun commit)
       → GroupsStand setting last begun calls commit before → KeepsSince setting groups time before.disk
       → KeepsSince setting groups time after.disk
-  since_written None groups time row stands kept =
-      touched_since P touched setting last begun lawful (spare.alone stands) stands.knows groups time row kept
+  since_written None groups time row stands kept = search (touched_since, spare.alone, stands.knows, arith)
   since_written (Some commit) groups time row stands kept =
       touched_since P touched setting last (shown_by stands.next commit) lawful (spare.shown commit stands)
       (search committing_knows) groups time
@@ -77,15 +65,13 @@ module _ {before : CoreState} (after : CoreState) {P : ℕ → ℕ → Type 0} (
   writes_stand {contents} {commit = commit} {left} {nexts} {call} {next} same still_lawful front off calls_off gains
       again fewer holds are stands =
       rw same (stands_anew P before (written_by before after) leaves off refl touched.later
-      (groups_written nexts commit still_lawful fewer stands.groups) (fewer last stands.spared)
+      (search (groups_written, arith)) (fewer last stands.spared)
       (λ other listed. ⊎_elim
-      (λ is. subst (λ (c : HoldingCall). HoldsCall (written_by before after) (contents (actor_of c)) c) is holds)
+      (search arith)
       (λ rest.
       let was = gains_old left calls call other gains rest in
       let beside = pairs_beside AreBeside beside_turn calls left call other gains are.beside rest in
-      call_stays P (contents (actor_of other)) before (written_by before after) other leaves
-      (calls_off other beside (are.each other was)) (stands.each other was))
-      (gains_cases left nexts next other again listed)) stands)
+      grind (arith, call_stays, leaves, beside)) (gains_cases left nexts next other again listed)) stands)
     where
       leaves : Leaves P before (written_by before after)
-      leaves = leaves_touched P before (written_by before after) front refl within touched
+      leaves = search (leaves_touched, arith)
