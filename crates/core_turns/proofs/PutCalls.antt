@@ -15,15 +15,7 @@ pub record Rearranges (old new : Core) : Type 0 where
 -- So all widths stay.
 pub rearranged_keeps : (old new : Core) → Rearranges old new → KeepsCalls old new
 rearranged_keeps old new change = record {
-  widths = record {
-    parity = search arith;
-    births = search arith;
-    reflow = search arith;
-    done = search arith;
-    block_parity = change.parity;
-    block_births = change.births;
-    begun = search arith;
-  };
+  widths = search arith;
   copying = cc;
   within = search arith;
 }
@@ -33,11 +25,7 @@ rearranged_keeps old new change = record {
 -- A put that begins calls no device.
 pub begins_rearranges : (old new : Core) (actor id len : ℕ) (run : PutRun) → BeginsPutSo old new actor id len run
     → Rearranges old new
-begins_rearranges old new actor id len run begins = record {
-  rest = begins.rest;
-  parity = begins.begins.parity;
-  births = begins.begins.births;
-}
+begins_rearranges old new actor id len run begins = search
 
 -- It is under way beside the others: it takes sectors that none of them has.
 pub put_begins_calls : {old new : Core} {actor id len : ℕ} {run : PutRun} {left calls : List HoldingCall}
@@ -59,11 +47,7 @@ put_begins_calls {old} {new} {run = run} {left} begins differs gains are =
 
 -- One that is refused calls no device,
 pub leaves_rearranges : (old new : Core) → LeavesBlocks old new → Rearranges old new
-leaves_rearranges old new leaves = record {
-  rest = cc;
-  parity = leaves.parity;
-  births = leaves.births;
-}
+leaves_rearranges old new leaves = search arith
 
 -- and leaves all calls.
 pub put_refused_calls : (calls : List HoldingCall) (old new : Core) → LeavesBlocks old new → AreCallsOf old calls
@@ -76,37 +60,22 @@ put_refused_calls calls old new leaves are = calls_keep old new calls
 
 -- A put that ends calls no device,
 pub ends_rearranges : (old new : Core) (run : PutRun) → StoresBlock old new run → Rearranges old new
-ends_rearranges old new run ends = record { rest = ends.rest; parity = ends.parity; births = ends.births }
+ends_rearranges old new run ends = search
 
 -- and leaves the others under way;
 pub put_ends_calls : {old new : Core} {run : PutRun} {left calls : List HoldingCall} → StoresBlock old new run
     → Gains left calls (Putting run) → AreCallsOf old calls → AreCallsOf new left
-put_ends_calls ends gains are = search (
-  calls_lose,
-  rearranged_keeps,
-  ends_rearranges,
-  ranges_gain,
-  ends.ends,
-  ends.under,
-  arith,
-)
+put_ends_calls ends gains are = calls_lose gains (search (rearranged_keeps, ends_rearranges)) ends.ends
+    (ends.under _ _ (ranges_gain gains) are.under) are
 
 -- so does one that is given up.
 pub gives_up_rearranges : (old new : Core) (run : PutRun) → GivesUp old new run → Rearranges old new
-gives_up_rearranges old new run gives_up =
-    record { rest = gives_up.rest; parity = gives_up.parity; births = gives_up.births }
+gives_up_rearranges old new run gives_up = search
 
 pub put_gives_up_calls : {old new : Core} {run : PutRun} {left calls : List HoldingCall} → GivesUp old new run
     → Gains left calls (Putting run) → AreCallsOf old calls → AreCallsOf new left
-put_gives_up_calls gives_up gains are = search (
-  calls_lose,
-  rearranged_keeps,
-  gives_up_rearranges,
-  ranges_gain,
-  gives_up.ends,
-  gives_up.under,
-  arith,
-)
+put_gives_up_calls gives_up gains are = calls_lose gains (search (rearranged_keeps, gives_up_rearranges)) gives_up.ends
+    (gives_up.under _ _ (ranges_gain gains) are.under) are
 
 -- ---- a put goes on
 

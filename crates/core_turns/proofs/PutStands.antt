@@ -4,6 +4,7 @@ use Rattle.core_turns.proofs.Calls.{range_listed}
 use Rattle.core_turns.proofs.StandFrames.{LeavesCommit, commit_still, lies_still}
 use Rattle.core_turns.proofs.Holds.{KeepsAlone, keeps_ended, keeps_gained, keeps_same}
 use Rattle.core_turns.proofs.PutRanges.{same_put}
+use Rattle.core_turns.proofs.TakenBack.{each_gained}
 use Rattle.core_turns.proofs.PutTurns.{plan_now, same_filled}
 use Rattle.core_turns.proofs.PutCalls.{Rearranges, begins_rearranges, ends_rearranges, gives_up_rearranges, leaves_rearranges}
 
@@ -48,8 +49,7 @@ pub stands_on : {setting : Setting} {last : Kept} {begun : List Kept} {map other
     → Stands setting last begun map contents calls commit (at_disk old disk)
     → Stands setting last begun other nows nexts commit (at_disk new disk)
 stands_on {setting} {last} {begun} {nows = nows} {calls} {nexts} {commit} {old} {new} {disk} change alone keeps held
-    each
-    stands =
+    each stands =
     let last_kept = keeps old.pool.uber.group last (inl refl) stands.kept stands.spared in
     rw change.rest (record {
       groups = groups_on commit stands.groups;
@@ -81,15 +81,7 @@ stands_on {setting} {last} {begun} {nows = nows} {calls} {nexts} {commit} {old} 
     groups_on (Some run) groups =
         let leaves : LeavesCommit old (rearranged old new) = search in
         let next_kept = keeps old.begun groups.next (inr refl) groups.kept groups.spared in
-        record {
-          next = groups.next;
-          begun_is = groups.begun_is;
-          of = search (commit_still, arith);
-          come = groups.come;
-          lies = search (lies_still, arith);
-          kept = next_kept.0;
-          spared = spares_on groups.next next_kept.1;
-        }
+        search (commit_still, lies_still, spares_on, arith)
 
 -- So it does where only the calls are others.
 pub stands_with : {setting : Setting} {last : Kept} {begun : List Kept} {map : Map} {contents nows : ℕ → List ℕ}
@@ -122,6 +114,25 @@ put_ends_alone : (old new : Core) (run : PutRun) → IsPutOf old run → EndsHol
     → KeepsAlone old.pool.done old.holds new.holds
 put_ends_alone old new run of ends = search (keeps_ended, put_shared, of)
 
+-- A put has no sector in common with a block that the table lists.
+pub listed_clear : (core : Core) (range : PutRange) (entry : IndexEntry) → IsCore core
+    → IsUnderWay core.pool.blocks range → IsListed core.pool.blocks.table.entries entry
+    → AreClear (put_run range) (layout_run (layout_of core.pool.uber.parity core.pool.uber.births entry))
+listed_clear core range entry is under listed =
+    subst (λ (p : ℕ). AreClear (put_run range) (run_of p core.pool.uber.births entry)) is.is.parity
+    (rw is.is.births at (under.clear entry listed))
+
+-- A put of which more is filled in or written has no more sectors of blocks.
+pub next_spares : {left calls nexts : List HoldingCall} {run : PutRun} (state : CoreState) (group : Kept)
+    (filled : Option Filled) → Gains left calls (Putting run)
+    → Gains left nexts (Putting (record run { filled = filled }))
+    → PutsSpare state calls group → PutsSpare state nexts group
+next_spares {left} {calls} {nexts} {run} state group filled gains again spared one listed = ⊎_elim
+    (λ (same : Putting (record run { filled = filled }) ≡ Putting one). rw (← same_put same)
+    (search (spared, gains_item)))
+    (search (spared, gains_old))
+    (gains_cases left nexts (Putting (record run { filled = filled })) (Putting one) again listed)
+
 module _ {setting : Setting} {last : Kept} {begun : List Kept} {map : Map} {contents : ℕ → List ℕ}
     {commit : Option CommitRun} where
   -- A put begins, beside all others, with its bytes.
@@ -142,12 +153,11 @@ module _ {setting : Setting} {last : Kept} {begun : List Kept} {map : Map} {cont
             (begins.spares past group.entries none))
             (λ there. spares one there) (gains_cases left calls (Putting run) (Putting one) gains listed),
       )) (search map_on)
-      (λ call listed. inr (⊎_elim
-      (λ same. rw (← same, ap nows (ap (λ (h : Hold). h.actor) begins.hold_is) ∙ sets.own) (record {
+      (each_gained gains (inr (rw (ap nows (ap (λ (h : Hold). h.actor) begins.hold_is) ∙ sets.own) (record {
         len_is = len_is ∙ sym begins.len_is;
         are_bytes = bytes;
         so_far = λ filled is. cc;
-      })) (search (sets.others, stands.each, arith)) (gains_cases left calls (Putting run) call gains listed))) stands
+      }))) (λ call there. inr (search (sets.others, stands.each, arith)))) stands
 
   -- A refusal leaves all calls.
   pub put_refused_stands : {calls : List HoldingCall} {old new : Core} {disk : Disk} → LeavesBlocks old new
@@ -168,100 +178,75 @@ module _ {setting : Setting} {last : Kept} {begun : List Kept} {map : Map} {cont
       (search (gains_item, gains_old, gives_up.kept, arith))
       (search map_on) (λ call listed. inr (stands.each call (search gains_old))) stands
 
--- A put has no sector in common with a block that the table lists.
-pub listed_clear : (core : Core) (range : PutRange) (entry : IndexEntry) → IsCore core
-    → IsUnderWay core.pool.blocks range → IsListed core.pool.blocks.table.entries entry
-    → AreClear (put_run range) (layout_run (layout_of core.pool.uber.parity core.pool.uber.births entry))
-listed_clear core range entry is under listed =
-    subst (λ (p : ℕ). AreClear (put_run range) (run_of p core.pool.uber.births entry)) is.is.parity
-    (rw is.is.births at (under.clear entry listed))
+  -- A put that ends brings its block into the map; a read of the block that it replaces goes on.
+  pub put_ends_stands : {left calls : List HoldingCall} {old new : Core} {disk : Disk} {run : PutRun} → IsCore old
+      → StoresBlock old new run
+      → (filled : Filled) × (run.filled ≡ Some filled) × (filled.write.next ≡ length filled.write.writes)
+      → Gains left calls (Putting run) → AreCallsOf old calls
+      → Stands setting last begun map contents calls commit (at_disk old disk)
+      → Stands setting last begun (with_block map (Some run.range.id) (Some (contents run.hold.actor))) contents left
+      commit (at_disk new disk)
+  put_ends_stands {left} {calls} {old} {new} {disk} {run} is ends whole gains are stands =
+      stands_on (calls_none (ends_rearranges old new run ends)) (put_ends_alone old new run of ends.ends)
+      (search (past_below, gains_old, ends.kept, arith))
+      held (λ call listed. inr (stands.each call (search gains_old))) stands
+    where
+      content : List ℕ
+      content = contents run.hold.actor
 
--- A put that ends brings its block into the map; a read of the block that it replaces goes on.
-pub put_ends_stands : {setting : Setting} {last : Kept} {begun : List Kept} {map : Map} {contents : ℕ → List ℕ}
-    {commit : Option CommitRun} {left calls : List HoldingCall} {old new : Core} {disk : Disk} {run : PutRun}
-    → IsCore old → StoresBlock old new run
-    → (filled : Filled) × (run.filled ≡ Some filled) × (filled.write.next ≡ length filled.write.writes)
-    → Gains left calls (Putting run) → AreCallsOf old calls
-    → Stands setting last begun map contents calls commit (at_disk old disk)
-    → Stands setting last begun (with_block map (Some run.range.id) (Some (contents run.hold.actor))) contents left
-    commit (at_disk new disk)
-put_ends_stands {map = map} {contents} {left = left} {calls} {old} {new} {disk} {run} is ends whole gains are stands =
-    stands_on (calls_none (ends_rearranges old new run ends)) (put_ends_alone old new run of ends.ends)
-    (search (past_below, gains_old, ends.kept, arith))
-    held (λ call listed. inr (stands.each call (search gains_old))) stands
-  where
-    content : List ℕ
-    content = contents run.hold.actor
+      its_calls : Contains calls (Putting run)
+      its_calls = gains_item left calls (Putting run) gains
 
-    its_calls : Contains calls (Putting run)
-    its_calls = gains_item left calls (Putting run) gains
+      of : IsPutOf old run
+      of = are.each (Putting run) its_calls
 
-    of : IsPutOf old run
-    of = are.each (Putting run) its_calls
+      holds : HoldsPut content (at_disk old disk) run
+      holds = stands.each (Putting run) its_calls
 
-    holds : HoldsPut content (at_disk old disk) run
-    holds = stands.each (Putting run) its_calls
+      read : ReadsAs (as_begun old).uber old.pool.done (filled_entry run ends.filled) content disk.reads old.pool.out
+      read =
+          rw (entry_layout old.pool.uber.parity old.pool.uber.births old.pool.blocks run.range
+          (filled_entry run ends.filled) run.len run.range.birth is.is.parity is.is.births of.range refl refl refl)
+          (written_all run.range.layout content old.pool.uber.reflow old.pool.done disk.reads old.pool.out
+          ends.filled.write (rw (← same_filled (sym whole.1 ∙ ends.filled_is)) whole.2)
+          (holds.so_far ends.filled ends.filled_is).1)
 
-    read : ReadsAs (as_begun old).uber old.pool.done (filled_entry run ends.filled) content disk.reads old.pool.out
-    read =
-        rw (entry_layout old.pool.uber.parity old.pool.uber.births old.pool.blocks run.range
-        (filled_entry run ends.filled) run.len run.range.birth is.is.parity is.is.births of.range refl refl refl)
-        (written_all run.range.layout content old.pool.uber.reflow old.pool.done disk.reads old.pool.out
-        ends.filled.write (rw (← same_filled (sym whole.1 ∙ ends.filled_is)) whole.2)
-        (holds.so_far ends.filled ends.filled_is).1)
+      held : HoldsMap (with_block map (Some run.range.id) (Some content)) (pool_at (at_disk new disk))
+      held =
+          let was : HoldsMap map (state_of (as_begun old) disk) = search in
+          let now = put_holds (state_of (as_begun old) disk)
+          (state_of (record (as_begun old) { blocks = new.pool.blocks }) disk) is.is is.step run.range.layout refl refl
+          (λ device out. out) of.pool
+          (search (listed_clear, range_listed, its_calls, are.under.each, arith)) (search touches_none) map
+          (filled_entry run ends.filled) content ends.change
+          (record { len = sym holds.len_is; digest = (holds.so_far ends.filled ends.filled_is).0 }) holds.are_bytes read
+          was in
+          search (content, arith)
 
-    held : HoldsMap (with_block map (Some run.range.id) (Some content)) (pool_at (at_disk new disk))
-    held =
-        let was : HoldsMap map (state_of (as_begun old) disk) = search in
-        let now = put_holds (state_of (as_begun old) disk)
-        (state_of (record (as_begun old) { blocks = new.pool.blocks }) disk) is.is is.step run.range.layout refl refl
-        (λ device out. out) of.pool
-        (search (listed_clear, range_listed, its_calls, are.under.each, arith)) (search touches_none) map
-        (filled_entry run ends.filled) content ends.change
-        (record { len = sym holds.len_is; digest = (holds.so_far ends.filled ends.filled_is).0 }) holds.are_bytes read
-        was in
-        search (content, arith)
+  -- A put whose bytes are filled in holds them, none of them written yet.
+  pub put_fills_stands : {left calls nexts : List HoldingCall} {state : CoreState} {run next : PutRun}
+      → FillsPut run next (contents run.hold.actor) → Gains left calls (Putting run) → Gains left nexts (Putting next)
+      → AreCallsOf state.core calls → Stands setting last begun map contents calls commit state
+      → Stands setting last begun map contents nexts commit state
+  put_fills_stands {left} {calls} {nexts} {state} {run} {next} fills gains again are stands =
+      stands_with (λ group. next_spares state group (Some fills.filled) gains (search arith))
+      (each_gained again (rw fills.rest filled) (λ call there. stands.each call (search gains_old))) stands
+    where
+      content : List ℕ
+      content = contents run.hold.actor
 
--- A put of which more is filled in or written has no more sectors of blocks.
-pub next_spares : {left calls nexts : List HoldingCall} {run : PutRun} (state : CoreState) (group : Kept)
-    (filled : Option Filled) → Gains left calls (Putting run)
-    → Gains left nexts (Putting (record run { filled = filled }))
-    → PutsSpare state calls group → PutsSpare state nexts group
-next_spares {left} {calls} {nexts} {run} state group filled gains again spared one listed = ⊎_elim
-    (λ (same : Putting (record run { filled = filled }) ≡ Putting one). rw (← same_put same)
-    (search (spared, gains_item)))
-    (search (spared, gains_old))
-    (gains_cases left nexts (Putting (record run { filled = filled })) (Putting one) again listed)
+      of : IsPutOf state.core run
+      of = are.each (Putting run) (gains_item left calls (Putting run) gains)
 
--- A put whose bytes are filled in holds them, none of them written yet.
-pub put_fills_stands : {setting : Setting} {last : Kept} {begun : List Kept} {map : Map} {contents : ℕ → List ℕ}
-    {commit : Option CommitRun} {left calls nexts : List HoldingCall} {state : CoreState} {run next : PutRun}
-    → FillsPut run next (contents run.hold.actor) → Gains left calls (Putting run) → Gains left nexts (Putting next)
-    → AreCallsOf state.core calls → Stands setting last begun map contents calls commit state
-    → Stands setting last begun map contents nexts commit state
-put_fills_stands {contents = contents} {left = left} {calls} {nexts} {state} {run} {next} fills gains again are stands =
-    stands_with (λ group. next_spares state group (Some fills.filled) gains (search arith))
-    (λ call listed. ⊎_elim (search (filled, arith)) (λ there. stands.each call (search gains_old))
-    (gains_cases left nexts (Putting next) call again listed)) stands
-  where
-    content : List ℕ
-    content = contents run.hold.actor
+      was : HoldsPut content state run
+      was = stands.each (Putting run) (gains_item left calls (Putting run) gains)
 
-    its_calls : Contains calls (Putting run)
-    its_calls = gains_item left calls (Putting run) gains
-
-    of : IsPutOf state.core run
-    of = are.each (Putting run) its_calls
-
-    was : HoldsPut content state run
-    was = stands.each (Putting run) its_calls
-
-    filled : HoldsPut content state (record run { filled = Some fills.filled })
-    filled = record {
-      len_is = was.len_is;
-      are_bytes = was.are_bytes;
-      so_far = λ other same. rw (← same_filled same) (
-        fills.made.digest_is,
-        search (written_none, content, plan_now, of),
-      );
-    }
+      filled : HoldsPut content state (record run { filled = Some fills.filled })
+      filled = record {
+        len_is = was.len_is;
+        are_bytes = was.are_bytes;
+        so_far = λ other same. rw (← same_filled same) (
+          fills.made.digest_is,
+          search (written_none, plan_now, of),
+        );
+      }

@@ -1,5 +1,5 @@
 -- Puts, turn by turn: how one begins, and is filled in.
-use Rattle.core_turns.proofs.Words.{◌≡◌, ℕ, ◌+◌, ◌≤◌, List, ◌∷◌, [], ◌++◌, length, Some, None, Result, Ok, Err, append-nil, refl, sym, subst, arith, OnOk, OnErr, slice_get, slice_get_within, Hold, allocated_of, Reflow, Write, Gains, IsDropping, Rows, IndexEntry, PutRange, PutRefused, Blocks, AreInStep, AreUnderWay, IsUnderWay, put_run, NoneFree, SparesAll, BeginsPut, IsAsBefore, IsPutCause, IsRangeFor, sectors_taken, gains_item, adds_none, adds_taken_back, IsInPool, IsPlanOf, range_in_pool, OutOfMemory, Filled, PutRun, More, Core, IsCore, as_begun, HasTooManyOut, BeginsPutTurn, FillsPut, IsFilledWith, IsPutOf, LeavesBlocks, hold_on, refused_turn}
+use Rattle.core_turns.proofs.Words.{◌≡◌, ℕ, ◌+◌, ◌≤◌, List, ◌∷◌, [], ◌++◌, length, Some, None, Result, Ok, Err, append-nil, sym, subst, arith, OnOk, OnErr, slice_get, slice_get_within, Hold, allocated_of, Reflow, Write, Gains, IsDropping, Rows, IndexEntry, PutRange, PutRefused, Blocks, AreInStep, AreUnderWay, IsUnderWay, put_run, NoneFree, SparesAll, BeginsPut, IsAsBefore, IsPutCause, IsRangeFor, sectors_taken, gains_item, adds_none, adds_taken_back, IsInPool, IsPlanOf, range_in_pool, OutOfMemory, Filled, PutRun, More, Core, IsCore, as_begun, HasTooManyOut, BeginsPutTurn, FillsPut, IsFilledWith, IsPutOf, LeavesBlocks, hold_on, refused_turn}
 use Rattle.core_blocks.specs.declared.refused.PutRefused.TheVariants as refused
 use Rattle.core_turns.proofs.Cores.{core_blocks}
 use Rattle.core_turns.proofs.Holds.{shared_gained}
@@ -25,37 +25,27 @@ module _ {core : Core} {begun : Blocks} {range : PutRange} (begins : BeginsPut c
       → reflow ≡ core.pool.uber.reflow
       → BeginsPutTurn core (record core { pool = record core.pool { blocks = begun }; holds = holds }) actor id len
       (More (record { hold = hold; range = range; len = len; reflow = reflow; done = core.pool.done; filled = None }))
-  put_begins {id = id} {len} {hold} {holds} is few some short of way hold_is held same = record {
-    few = few;
-    len_is = refl;
-    unfilled = refl;
-    range = of;
-    begins = begins;
-    under_way = way;
-    hold_is = hold_is;
-    rest = refl;
-    holds = held;
-    of = record {
-      pool = pool;
-      front = is.is.front;
-      begun_pool = rw same pool;
-      begun_front = search arith;
-      places = search arith;
-      range = search arith;
-      born = search arith;
-      len = (some, short);
-      holds = gains_item core.holds holds hold held;
-      hold_is = cc;
-      filled = λ filled is_filled. cc;
-    };
-    under = under;
-    kept = kept;
-    spares = spares;
-  }
+  put_begins {id = id} {len} {hold} {holds} {reflow} is few some short of way hold_is held same = search its_of
     where
       pool : IsInPool range.layout core.pool.uber.reflow
       pool = range_in_pool (as_begun core) begun range id len (core.begun + 1) core.holds is.is begins.parity
           begins.births of begins.first some short
+
+      its_of : IsPutOf (record core { pool = record core.pool { blocks = begun }; holds = holds })
+          (record { hold = hold; range = range; len = len; reflow = reflow; done = core.pool.done; filled = None })
+      its_of = record {
+        pool = pool;
+        front = is.is.front;
+        begun_pool = rw same pool;
+        begun_front = search arith;
+        places = search arith;
+        range = search arith;
+        born = search arith;
+        len = (some, short);
+        holds = gains_item core.holds holds hold held;
+        hold_is = cc;
+        filled = λ filled is_filled. cc;
+      }
 
   -- or is given up at once, which leaves the blocks.
   pub put_dropped : {after : Blocks} {holds : List Hold} → holds ≡ core.holds

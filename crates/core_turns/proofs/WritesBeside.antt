@@ -1,6 +1,7 @@
 -- A write to sectors that no group asks for leaves the groups, what images keep of them, and all else that stands.
-use Rattle.core_turns.proofs.Words.{◌≡◌, ⊎_elim, ℕ, ◌≤◌, List, [], ◌∷◌, Option, Some, None, refl, ◌∙◌, ap, Lawful, TouchesOnly, Gains, IsWithin, IsFrontOf, count_of, Kept, Map, Setting, IsSpare, IsRowOf, KeepsSince, gains_old, gains_cases, pairs_beside, touched_knows, touched_since, Stage, Lays, CommitRun, IsBeside, shown_at, shown_by, committing_knows, committing_touched, CoreState, at_disk, HoldingCall, AreBeside, AreCallsOf, CommitStands, GroupsStand, HoldsCall, IsCallOfCore, NoCommitStands, PutsSpare, Stands, actor_of, shown_in, shown_of, arith}
+use Rattle.core_turns.proofs.Words.{◌≡◌, ℕ, ◌≤◌, List, [], ◌∷◌, Option, Some, None, refl, ◌∙◌, ap, Lawful, TouchesOnly, Gains, IsWithin, IsFrontOf, count_of, Kept, Map, Setting, IsSpare, IsRowOf, KeepsSince, gains_old, pairs_beside, touched_knows, touched_since, Stage, Lays, CommitRun, IsBeside, shown_at, shown_by, committing_knows, committing_touched, CoreState, at_disk, HoldingCall, AreBeside, AreCallsOf, CommitStands, GroupsStand, HoldsCall, IsCallOfCore, NoCommitStands, PutsSpare, Stands, actor_of, shown_in, shown_of, arith}
 use Rattle.core_commit.specs.declared.commit_run.Stage.TheVariants.{Signs}
+use Rattle.core_turns.proofs.TakenBack.{each_gained}
 use Rattle.core_turns.proofs.Calls.{beside_turn}
 use Rattle.core_turns.proofs.Frames.{AreOff, IsCallOff, Leaves, OnlyOut, call_stays, leaves_touched}
 use Rattle.core_turns.proofs.StandFrames.{commit_still, lies_still, out_leaves, stands_anew}
@@ -66,12 +67,10 @@ module _ {before : CoreState} (after : CoreState) {P : ℕ → ℕ → Type 0} (
       again fewer holds are stands =
       rw same (stands_anew P before (written_by before after) leaves off refl touched.later
       (search (groups_written, arith)) (fewer last stands.spared)
-      (λ other listed. ⊎_elim
-      (search arith)
-      (λ rest.
+      (each_gained again holds (λ other rest.
       let was = gains_old left calls call other gains rest in
       let beside = pairs_beside AreBeside beside_turn calls left call other gains are.beside rest in
-      grind (arith, call_stays, leaves, beside)) (gains_cases left nexts next other again listed)) stands)
+      grind (arith, call_stays, leaves, beside))) stands)
     where
       leaves : Leaves P before (written_by before after)
       leaves = search (leaves_touched, arith)

@@ -1,4 +1,3 @@
-use Rattle.core_turns.proofs.Words.{refl}
 use Rattle.core_turns.proofs.Cores.{core_blocks}
 use Rattle.core_turns.proofs.Holds.{shared_ended}
 use Rattle.core_turns.proofs.PutStands.{put_shared}
@@ -14,14 +13,4 @@ invariant_of-self c = core_blocks c.self.invariant c.give_up.ensures.parity c.gi
     (shared_ended _ _ c.args.run.now.hold (put_shared _ c.args.run.now c.requires.of) c.end.ensures.ends)
 
 pub returns : goal.returns
-returns c = rw (← c.self.view_is) (record {
-  rest = refl;
-  ends = c.end.ensures.ends;
-  parity = c.give_up.ensures.parity;
-  births = c.give_up.ensures.births;
-  entries = c.give_up.ensures.entries;
-  reserved = c.give_up.ensures.reserved;
-  dropped = c.give_up.ensures.dropped;
-  under = c.give_up.ensures.under;
-  kept = c.give_up.ensures.kept;
-})
+returns c = rw (← c.self.view_is) (search (c.give_up.ensures, c.end.ensures))
