@@ -1,5 +1,5 @@
 -- What each turn of a copy does to the bank and the devices.
-use Rattle.core_turns.proofs.Words.{◌≡◌, ⊎_elim, ℕ, ap, Lawful, CopyRound, Rests, Copies, Commits, Turn, More, Done, Core, CoreState, IsCore, BeginsRound, IsRoundOf, StepsCopy, TurnGoesOn}
+use Rattle.core_turns.proofs.Words.{◌≡◌, ⊎_elim, ℕ, Lawful, CopyRound, Rests, Copies, Commits, Turn, More, Done, Core, CoreState, IsCore, BeginsRound, IsRoundOf, StepsCopy, TurnGoesOn}
 use Rattle.core_state.specs.declared.answer.Answer.TheVariants as answer
 use Rattle.core_turns.proofs.CommitGoes.{commit_goes, turn_nowhere, turn_still}
 use Rattle.core_turns.proofs.JobTurns.{job_turn}
@@ -26,8 +26,7 @@ module _ (before after : CoreState) where
   copy_goes (Rests actor made) (Done given) is lawful of steps = rw steps.1 (turn_nowhere before)
   copy_goes (Copies run) (More (Copies next)) is lawful of steps = search job_turn
   copy_goes (Copies run) (More (Rests actor next)) is lawful of steps = ⊎_elim
-      (λ ended. turn_still before after (ap (λ (c : Core). c.pool.uber) ended.2.rest)
-      (cc) (ap (λ (c : Core). c.pool.out) ended.2.rest) steps.1)
+      (λ ended. turn_still before after (rw ended.2.rest) (cc) (rw ended.2.rest) steps.1)
       (λ dropped. turn_still before after (cc) (cc) (cc) steps.1) steps.2
   copy_goes (Copies run) (Done given) is lawful of steps = turn_still before after (cc) (cc) (cc) steps.0
   copy_goes (Commits run) (More (Commits next)) is lawful of steps =

@@ -1,5 +1,5 @@
 -- What a read keeps of its block, turn by turn.
-use Rattle.core_turns.proofs.Words.{◌≡◌, ℕ, ◌<◌, List, false, Option, Some, None, Result, Ok, Err, sym, ◌∙◌, ap, subst, arith, OnOk, cases_lt, Disk, Unchanged, rows_of, IsRequiredPlace, IsFrontOf, entry_of, IsLeftOver, has_device, IsWithin, Kind, Map, Cell, IsCell, found_id, found_listed, HasLostFew, OnlyFailedGoOut, point_of, IsAtColumn, read_begun, read_stays, read_more, read_left_over, read_lost_few, IsReadRight, HoldsMap, block_stays, GetRun, OutOfMemory, Solved, NotYet, Bytes, Damaged, Turn, More, Busy, Done, Core, CoreState, at_disk, pool_at, IsReadKind, HasTooManyOut, IsGetOf, BeginsGet, ReadsTurn, IsSolved, SolvesGet, AnswersSolved, EndsGet, IsSolvedAs, HoldsGet, FindsGet, KeepsGet, TellsGet, answer_of, to_solve_of}
+use Rattle.core_turns.proofs.Words.{◌≡◌, ℕ, ◌<◌, List, false, Option, Some, None, Result, Ok, Err, sym, ◌∙◌, ap, arith, OnOk, cases_lt, Disk, Unchanged, rows_of, IsRequiredPlace, IsFrontOf, entry_of, IsLeftOver, has_device, IsWithin, Kind, Map, Cell, IsCell, found_id, found_listed, HasLostFew, OnlyFailedGoOut, point_of, IsAtColumn, read_begun, read_stays, read_more, read_left_over, read_lost_few, IsReadRight, HoldsMap, block_stays, GetRun, OutOfMemory, Solved, NotYet, Bytes, Damaged, Turn, More, Busy, Done, Core, CoreState, at_disk, pool_at, IsReadKind, HasTooManyOut, IsGetOf, BeginsGet, ReadsTurn, IsSolved, SolvesGet, AnswersSolved, EndsGet, IsSolvedAs, HoldsGet, FindsGet, KeepsGet, TellsGet, answer_of, to_solve_of}
 use Rattle.core_state.specs.declared.answer.Kind.TheVariants as kind
 
 -- A read that begins holds the block that the map has at its id.
@@ -30,7 +30,7 @@ pub get_reads : {content : List ℕ} (before after : CoreState) {run : GetRun} (
 get_reads {content} before after {run} (More next) front of place left unchanged outs holds reads =
     let reflow = before.core.pool.uber.reflow in
     let done = before.core.pool.done in
-    subst (λ (core : Core). HoldsGet content (at_disk core after.disk) next) (sym reads.2) (rw reads.1 (record {
+    rw (reads.2, reads.1) (record {
       right = rw reads.3.on.layout_is (block_stays run.read.layout content reflow done before.disk.reads
           after.disk.reads before.core.pool.out after.core.pool.out outs.still
           (λ cell device device_sector is required used told. unchanged.reads device device_sector ∙ told) holds.right);
@@ -40,7 +40,7 @@ get_reads {content} before after {run} (More next) front of place left unchanged
       so_far = read_more content reflow done run.read next.read (point_of before.core.pool.out before.disk)
           (point_of after.core.pool.out after.disk) place left of.pool front.front holds.right reads.3 holds.so_far;
       solved = λ few. holds.solved reads.0;
-    }))
+    })
 get_reads before after other front of place left unchanged outs holds reads = tt
 
 -- What is solved of a block that was read whole is the block.

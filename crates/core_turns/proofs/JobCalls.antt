@@ -49,8 +49,7 @@ job_steps_calls {before} {after} {run} {next} {left} {calls} {nexts} steps of wi
     calls_swap gains again steps.hold same_apart of (rw (ranges_copied again, ← ranges_copied gains) now.under) now
   where
     same_apart : (other : HoldingCall) → HaveNoneInCommon (Copying run) other → HaveNoneInCommon (Copying next) other
-    same_apart (Copying other) apart = apart
-    same_apart other apart = search arith
+    same_apart other apart = grind arith
 
 -- ---- a job ends
 

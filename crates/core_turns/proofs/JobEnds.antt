@@ -128,21 +128,15 @@ module _ {old new : Core} {run : CopyRun} {left calls : List HoldingCall} (is : 
       → Stands setting last begun map contents calls commit (at_disk old disk)
       → Stands setting last begun map contents left commit (at_disk new disk)
   job_ends_stands {setting} {last} {begun} {map} {contents} {commit} {disk} whole all stands =
-      rw ends.rest (record {
-        groups = groups_ended commit stands.groups;
-        alike = stands.alike;
-        kept = stands.kept;
-        spared = λ put listed. stands.spared put (call_loses gains put listed);
-        excepted = stands.excepted;
-        shape = stands.shape;
-        tells = stands.tells;
-        bank = stands.bank;
-        holds = map_ended is of ends.ends map disk whole all
-            (stands.each (Copying run) (gains_item left calls (Copying run) gains)) stands.holds;
-        each = λ call listed. call_holds is of ends.ends disk (contents (actor_of call)) call
-            (beside call listed).apart (was call listed) (stands.each call (search gains_old));
-      })
+      let held = map_ended is of ends.ends map disk whole all
+      (stands.each (Copying run) (gains_item left calls (Copying run) gains)) stands.holds in
+      rw ends.rest (search (groups_ended, stands.spared, call_loses, each_on, arith))
     where
+      each_on : (call : HoldingCall) → Contains left call
+          → HoldsCall (at_disk (ended is of ends.ends) disk) (contents (actor_of call)) call
+      each_on call listed = call_holds is of ends.ends disk (contents (actor_of call)) call (beside call listed).apart
+          (was call listed) (stands.each call (search gains_old))
+
       groups_ended : (commit : Option CommitRun) → GroupsStand setting last begun calls commit (at_disk old disk)
           → GroupsStand setting last begun left commit (at_disk (ended is of ends.ends) disk)
       groups_ended None groups = search

@@ -1,5 +1,5 @@
 -- What a job that is under way has copied, over what others do.
-use Rattle.core_turns.proofs.Words.{◌≡◌, inr, ⊎_elim, ℕ, ◌<◌, [], true, false, sym, ◌∙◌, arith, cases_lt, Reflow, Job, Fill, job_end, has_device, IsWithin, none_in, Point, MayRun, Cell, RightAt, IsDataSector, IsClose, CopiesSector, IsPlaceSoFar, IsTarget, JobRun, GoesOnIn, HoldsJob, run_beside, run_stays, none_empty, CopiesCells}
+use Rattle.core_turns.proofs.Words.{◌≡◌, inr, ⊎_elim, ℕ, ◌<◌, [], true, false, sym, ◌∙◌, arith, cases_lt, Reflow, Job, Fill, job_end, has_device, IsWithin, none_in, Point, MayRun, Cell, RightAt, IsDataSector, IsClose, CopiesSector, IsPlaceSoFar, IsTarget, JobRun, HoldsJob, run_beside, run_stays, none_empty, CopiesCells}
 use Rattle.core_turns.proofs.Beside.{required_data, row_below}
 
 -- ---- devices
@@ -36,9 +36,6 @@ module _ (P : ℕ → ℕ → Type 0) (reflow : Reflow) (done : ℕ) (run : JobR
     (reads : (device device_sector : ℕ) → has_device after.out device ≡ false → IsDataSector device_sector
     → (P device device_sector → ⊥) → after.disk.reads device device_sector ≡ before.disk.reads device device_sector)
     (off : IsJobOff P reflow done run) (holds : CopiesCells reflow done run before) where
-  goes : GoesOnIn reflow done run
-  goes = holds.goes
-
   module _ (whole : after.out ≡ 0) (cell : Cell) (close : IsClose reflow cell) (below : cell.sector < cell.row_end)
       (right : RightAt after.disk.reads reflow done after.out [] cell) where
     -- A sector that the job copies was right before,
@@ -57,8 +54,8 @@ module _ (P : ℕ → ℕ → Type 0) (reflow : Reflow) (done : ℕ) (run : JobR
 
     -- of another no more is asked.
     cell_stays : HoldsJob reflow done run after [] cell
-    cell_stays = search (run_beside, goes, inside_stays, cases_lt, arith)
+    cell_stays = search (run_beside, holds.goes, inside_stays, cases_lt, arith)
 
   -- A job has come as far as before where nothing was touched that it relies on.
   pub job_leaves : CopiesCells reflow done run after
-  job_leaves = record { goes = goes; each = cell_stays }
+  job_leaves = record { goes = holds.goes; each = cell_stays }

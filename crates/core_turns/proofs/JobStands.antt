@@ -1,5 +1,5 @@
 -- What stands between two turns stands over each turn of a job, and so does what images keep.
-use Rattle.core_turns.proofs.Words.{◌≡◌, inl, HoldsCall, inr, ⊎_elim, ℕ, ◌<◌, ◌≤◌, List, [], ◌∷◌, Option, sym, ◌∙◌, ap, subst, arith, Contains, Disk, Lawful, Tells, TouchesOnly, Hold, Reflow, Layout, Gains, Fill, IsWithin, Uber, count_none, AreAlike, Map, Kept, Setting, IsSound, Point, point_of, IsSpare, IsRowOf, KeepsSince, Cell, RightAt, contains_cases, contains_none, contains_head, contains_tail, chooses, around_alone, around_begins, IsCommitChoice, copied_of, IsCellIn, IsClose, StandAround, CopiesSector, IsTarget, MovesMark, call_count, choice_moves, sound_close, job_at_front, job_spare, target_free, gains_cases, gains_item, gains_old, IsInPool, CommitRun, shown_at, Stage, Lays, sound_paged, begun_run, present_sector, HoldsJob, present_in, run_begins, run_steps, step_goes_on, target_at, listed_in_pool, CopyRun, PutRun, Core, CoreState, IsCore, as_begun, at_disk, HasBankOf, BeginsJobSo, CopiesCells, DropsJob, IsJobOf, StepsJob, HoldingCall, Putting, Reading, Copying, AreBeside, AreCallsOf, CommitStands, IsCallOfCore, Stands, shown_of}
+use Rattle.core_turns.proofs.Words.{◌≡◌, inl, HoldsCall, inr, ⊎_elim, ℕ, ◌<◌, ◌≤◌, List, [], ◌∷◌, Option, sym, ◌∙◌, ap, subst, arith, Contains, Disk, Lawful, Tells, TouchesOnly, Hold, Reflow, Layout, Gains, Fill, IsWithin, Uber, count_none, AreAlike, Map, Kept, Setting, IsSound, point_of, IsSpare, IsRowOf, KeepsSince, Cell, RightAt, contains_cases, contains_none, contains_head, contains_tail, chooses, around_alone, around_begins, IsCommitChoice, copied_of, IsCellIn, IsClose, StandAround, CopiesSector, IsTarget, MovesMark, call_count, choice_moves, sound_close, job_at_front, job_spare, target_free, gains_cases, gains_item, gains_old, IsInPool, CommitRun, shown_at, Stage, Lays, sound_paged, begun_run, present_sector, HoldsJob, present_in, run_begins, run_steps, step_goes_on, target_at, listed_in_pool, CopyRun, PutRun, Core, CoreState, IsCore, as_begun, at_disk, HasBankOf, BeginsJobSo, CopiesCells, DropsJob, IsJobOf, StepsJob, HoldingCall, Putting, Reading, Copying, AreBeside, AreCallsOf, CommitStands, IsCallOfCore, Stands, shown_of}
 use Rattle.reflow_mark.specs.declared.reflow.State.TheVariants.{None as Unmoved}
 use Rattle.uberblock_ring.specs.Devices.{count_of}
 use Rattle.core_commit.specs.declared.commit_run.Stage.TheVariants.{Signs}
@@ -90,12 +90,6 @@ module _ {before after : CoreState} {run next : CopyRun} (is : IsCore before.cor
   abbrev places : ℕ → ℕ → Type 0
   places = IsWrittenBy run.job
 
-  abbrev here : Point
-  here = point_of before.core.pool.out before.disk
-
-  abbrev there : Point
-  there = point_of after.core.pool.out after.disk
-
   touched : TouchesOnly places before.disk after.disk
   touched = search step_touches_target
 
@@ -129,11 +123,13 @@ module _ {before after : CoreState} {run next : CopyRun} (is : IsCore before.cor
 
   -- It has come one step further with each cell.
   copies_on : Tells before.disk → HasBankOf before.core before.disk
-      → CopiesCells reflow done run.job here → CopiesCells reflow done next.job there
+      → CopiesCells reflow done run.job (point_of before.core.pool.out before.disk)
+      → CopiesCells reflow done next.job (point_of after.core.pool.out after.disk)
   copies_on tells bank held = record {
     goes = search step_goes_on;
     each = λ whole cell close below right.
-        run_steps reflow done run.job next.job here there [] cell of.goes some tells
+        run_steps reflow done run.job next.job (point_of before.core.pool.out before.disk)
+        (point_of after.core.pool.out after.disk) [] cell of.goes some tells
         (search (bank_has, bank_within, arith)) close below (search contains_none) steps.steps
         (held.each steps.whole cell close below (record {
           at = λ device device_sector place used kept.

@@ -74,18 +74,17 @@ target_on core run of left = search (target_inside, present_in, target_at)
 -- So the turn goes on in the pool.
 pub job_turn : {before after : CoreState} {run next : CopyRun} → IsCore before.core → IsJobOf before.core run
     → run.job.made < call_count run.job.reflow run.job.job → StepsJob before run after next → TurnGoesOn before after
-job_turn {before} {after} {run} is of left steps = record {
-  parity = search arith;
-  reach = cc;
-  rows = search arith;
-  later = touched.later;
-  out = search outs_by_step;
-  only = touches_widen (IsWrittenBy run.job) (IsOnInUse before.core.reach before.core.pool.out)
-      (search (target_on, all_used, arith)) touched;
-}
-  where
-    touched : TouchesOnly (IsWrittenBy run.job) before.disk after.disk
-    touched = search step_touches_target
+job_turn {before} {after} {run} is of left steps =
+    let touched : TouchesOnly (IsWrittenBy run.job) before.disk after.disk = search step_touches_target in
+    record {
+      parity = search arith;
+      reach = cc;
+      rows = search arith;
+      later = touched.later;
+      out = search outs_by_step;
+      only = touches_widen (IsWrittenBy run.job) (IsOnInUse before.core.reach before.core.pool.out)
+          (search (target_on, all_used, arith)) touched;
+    }
 
 -- ---- a job ends
 

@@ -88,9 +88,7 @@ next_calls {core} {run} {left} {calls} {nexts} filled of gains again are =
   where
     same_apart : (other : HoldingCall) → HaveNoneInCommon (Putting run) other
         → HaveNoneInCommon (Putting (record run { filled = filled })) other
-    same_apart (Putting other) apart = apart
-    same_apart (Reading other) apart = apart
-    same_apart (Copying other) apart = apart
+    same_apart other apart = grind arith
 
 -- Bytes are filled in.
 pub put_fills_calls : {core : Core} {run next : PutRun} {bytes : List ℕ} {left calls nexts : List HoldingCall}

@@ -1,9 +1,9 @@
 -- Puts, turn by turn: a turn that writes, and what it does to the bank and the devices.
-use Rattle.core_turns.proofs.Words.{◌≡◌, ◌≢◌, ⊎_elim, ℕ, ◌+◌, ◌<◌, List, length, false, true, Some, sym, ap, subst, arith, Contains, slice_get, slice_index_or, slice_get-get_or, Disk, TouchesOnly, later_refl, touches_none, wrote_touches, Rows, Write, has_device, Point, point_of, IsUnderWay, OnlyFailedGoOut, BlockWrite, IsOnBank, IsMade, IsPassedOrMade, listed_at, below_by_write, outs_none, outs_called, plan_below, plan_inside, IsOnInUse, Filled, PutRun, Turn, More, Busy, Done, Core, CoreState, IsCore, at_disk, HasBankOf, HasTooManyOut, IsMorePut, IsPutOf, WritesOne, WritesTurn, TurnGoesOn}
+use Rattle.core_turns.proofs.Words.{◌≡◌, ◌≢◌, ⊎_elim, ℕ, ◌+◌, ◌<◌, List, length, false, true, Some, ap, subst, arith, Contains, slice_get, slice_index_or, slice_get-get_or, Disk, TouchesOnly, later_refl, touches_none, wrote_touches, Rows, Write, has_device, Point, point_of, IsUnderWay, OnlyFailedGoOut, BlockWrite, IsOnBank, IsMade, IsPassedOrMade, listed_at, below_by_write, outs_none, outs_called, plan_below, plan_inside, IsOnInUse, Filled, PutRun, Turn, More, Busy, Done, Core, CoreState, IsCore, at_disk, HasBankOf, HasTooManyOut, IsMorePut, IsPutOf, WritesOne, WritesTurn, TurnGoesOn}
 use Rattle.std.specs.Prelude.{All}
 use Rattle.core_turns.proofs.Cores.{bank_within, bank_has, core_out}
 use Rattle.core_turns.proofs.Frames.{put_of_stays, widths_out}
-use Rattle.core_turns.proofs.PutTurns.{same_filled, written, written_of}
+use Rattle.core_turns.proofs.PutTurns.{same_filled, written_of}
 
 -- ---- what was filled in
 
@@ -92,18 +92,11 @@ put_goes_on {before} {after} (More next) is of writes =
     search outs_by_write
 put_goes_on (Busy by) is of writes = absurd writes
 put_goes_on {before} {after} (Done given) is of writes =
-    subst (λ (d : Disk). TurnGoesOn before (at_disk after.core d)) (sym writes.1)
-    (subst (λ (c : Core). TurnGoesOn before (at_disk c before.disk)) (sym writes.0.gives_up.rest)
-    (search (later_refl, outs_none, touches_none)))
+    rw (writes.1, writes.0.gives_up.rest) (search (later_refl, outs_none, touches_none))
 
 -- A put with one write more is one of this pool still.
 pub put_more : (before after : CoreState) {run : PutRun} (result : Turn PutRun) → IsPutOf before.core run
     → IsUnderWay before.core.pool.blocks run.range → WritesTurn before run after result → IsMorePut after.core result
 put_more before after (More next) of under_way writes =
-    let core = record before.core { pool = record before.core.pool { out = after.core.pool.out } } in
-    subst (λ (c : Core). IsMorePut c (More next)) (sym writes.rest)
-    (subst (λ (r : PutRun). IsMorePut core (More r)) (sym writes.next_is) (
-      search (put_of_stays, written, widths_out, written_of),
-      under_way,
-    ))
+    rw (writes.rest, writes.next_is) (search (put_of_stays, widths_out, written_of), under_way)
 put_more before after other of under_way writes = tt

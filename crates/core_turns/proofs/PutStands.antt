@@ -1,5 +1,5 @@
 -- What stands between two turns stands over each turn that calls no device, as those of a put but for its writes.
-use Rattle.core_turns.proofs.Words.{◌≡◌, ◌≢◌, ◌⊎◌, inl, inr, ⊎_elim, ℕ, ◌+◌, ◌<◌, List, Option, Some, None, refl, sym, ◌∙◌, ap, subst, length, arith, Contains, touches_none, Hold, Shared, EndsHold, Gains, IndexEntry, AreBytes, Map, with_block, layout_of, Kept, Setting, PutRange, IsListed, IsUnderWay, layout_run, put_run, run_of, NoneFree, AreClear, gains_item, gains_old, gains_cases, written_all, written_none, CommitRun, HoldsMap, ReadsAs, state_of, put_holds, entry_layout, Disk, Filled, PutRun, Core, CoreState, IsCore, as_begun, at_disk, pool_at, BeginsPutSo, FillsPut, GivesUp, HoldsPut, IsPutOf, LeavesBlocks, StoresBlock, filled_entry, HoldingCall, Putting, Reading, Copying, AreCallsOf, GroupsStand, HoldsCall, PutsSpare, SetsContent, Stands, actor_of}
+use Rattle.core_turns.proofs.Words.{◌≡◌, ◌≢◌, ◌⊎◌, inl, inr, ⊎_elim, ℕ, ◌+◌, ◌<◌, List, Option, Some, None, refl, sym, ◌∙◌, ap, length, arith, Contains, touches_none, Hold, Shared, EndsHold, Gains, IndexEntry, AreBytes, Map, with_block, layout_of, Kept, Setting, PutRange, IsListed, IsUnderWay, layout_run, put_run, NoneFree, AreClear, gains_item, gains_old, gains_cases, written_all, written_none, CommitRun, HoldsMap, ReadsAs, state_of, put_holds, entry_layout, Disk, Filled, PutRun, Core, CoreState, IsCore, as_begun, at_disk, pool_at, BeginsPutSo, FillsPut, GivesUp, HoldsPut, IsPutOf, LeavesBlocks, StoresBlock, filled_entry, HoldingCall, Putting, Reading, Copying, AreCallsOf, GroupsStand, HoldsCall, PutsSpare, SetsContent, Stands, actor_of}
 use Rattle.core_turns.proofs.Calls.{range_listed}
 use Rattle.core_turns.proofs.StandFrames.{LeavesCommit, commit_still, lies_still}
 use Rattle.core_turns.proofs.Holds.{KeepsAlone, keeps_ended, keeps_gained, keeps_same}
@@ -51,18 +51,8 @@ pub stands_on : {setting : Setting} {last : Kept} {begun : List Kept} {map other
 stands_on {setting} {last} {begun} {nows = nows} {calls} {nexts} {commit} {old} {new} {disk} change alone keeps held
     each stands =
     let last_kept = keeps old.pool.uber.group last (inl refl) stands.kept stands.spared in
-    rw change.rest (record {
-      groups = groups_on commit stands.groups;
-      alike = stands.alike;
-      kept = last_kept.0;
-      spared = spares_on last last_kept.1;
-      excepted = stands.excepted;
-      shape = stands.shape;
-      tells = stands.tells;
-      bank = stands.bank;
-      holds = rw change.rest at held;
-      each = search (holds_on, arith);
-    })
+    let held_on = rw change.rest at held in
+    rw change.rest (search (groups_on, spares_on, each_on))
   where
     spares_on : (group : Kept) → PutsSpare (at_disk old disk) nexts group
         → PutsSpare (at_disk (rearranged old new) disk) nexts group
@@ -74,6 +64,10 @@ stands_on {setting} {last} {begun} {nows = nows} {calls} {nexts} {commit} {old} 
     holds_on (Putting run) held = search
     holds_on (Reading run) held = search
     holds_on (Copying run) held = held
+
+    each_on : (call : HoldingCall) → Contains nexts call
+        → HoldsCall (at_disk (rearranged old new) disk) (nows (actor_of call)) call
+    each_on call listed = ⊎_elim (λ now. rw change.rest at now) (holds_on call) (each call listed)
 
     groups_on : (commit : Option CommitRun) → GroupsStand setting last begun calls commit (at_disk old disk)
         → GroupsStand setting last begun nexts commit (at_disk (rearranged old new) disk)
@@ -119,8 +113,7 @@ pub listed_clear : (core : Core) (range : PutRange) (entry : IndexEntry) → IsC
     → IsUnderWay core.pool.blocks range → IsListed core.pool.blocks.table.entries entry
     → AreClear (put_run range) (layout_run (layout_of core.pool.uber.parity core.pool.uber.births entry))
 listed_clear core range entry is under listed =
-    subst (λ (p : ℕ). AreClear (put_run range) (run_of p core.pool.uber.births entry)) is.is.parity
-    (rw is.is.births at (under.clear entry listed))
+    rw (is.is.parity, is.is.births) at (under.clear entry listed)
 
 -- A put of which more is filled in or written has no more sectors of blocks.
 pub next_spares : {left calls nexts : List HoldingCall} {run : PutRun} (state : CoreState) (group : Kept)

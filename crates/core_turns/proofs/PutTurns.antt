@@ -105,19 +105,7 @@ put_refused {core} {after} actor id len why is few same under kept cause = searc
 filled_of : {core : Core} {run : PutRun} {filled : Filled} {content : List ℕ}
     → IsFilledWith core (record run { filled = Some filled }) filled content → IsPutOf core run
     → IsPutOf core (record run { filled = Some filled })
-filled_of with of = record {
-  pool = of.pool;
-  front = of.front;
-  begun_pool = of.begun_pool;
-  begun_front = of.begun_front;
-  places = of.places;
-  range = of.range;
-  born = of.born;
-  len = of.len;
-  holds = of.holds;
-  hold_is = of.hold_is;
-  filled = search (same_filled, arith);
-}
+filled_of {run = run} {filled} {content} with of = search (same_filled, with, content, arith)
 
 -- What is filled in for the widths and the front of the put's begin is the pool's block now.
 pub plan_now : {core : Core} {run : PutRun} {content : List ℕ} {rows : Rows} {writes : List Write} → IsPutOf core run
