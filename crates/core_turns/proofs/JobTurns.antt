@@ -1,5 +1,5 @@
 -- Copy jobs, turn by turn: that a pool stays one, and what each turn comes to.
-use Rattle.core_turns.proofs.Words.{pow-le-pow_right, ◌≡◌, inl, inr, ℕ, ◌^◌, ◌<◌, ◌≤◌, List, Some, None, refl, ap, arith, Disk, TouchesOnly, touches_widen, wrote_touches, Hold, Exclusive, EndsHold, IsClear, exclusive_count, Job, job_end, IsWithin, Point, point_of, MayRun, gains_item, IsOnInUse, read_touches, IsOnPool, call_count, due_may_run, job_at_front, job_front, job_some, target_inside, HoldsRead, JobRun, JobSteps, begun_run, target_spot, begun_goes_on, present_in, right_begins, step_goes_on, target_at, CopyRun, Core, CoreState, IsCore, alone_below, as_begun, jobs_begun, BeginsJobSo, IsDue, IsJobOf, StepsJob, hold_for_job, TurnGoesOn}
+use Rattle.core_turns.proofs.Words.{pow-le-pow_right, ◌≡◌, inl, inr, ℕ, ◌^◌, ◌<◌, ◌≤◌, List, Some, None, ap, arith, Disk, TouchesOnly, touches_widen, wrote_touches, Hold, Exclusive, EndsHold, IsClear, exclusive_count, Job, job_end, IsWithin, Point, point_of, MayRun, gains_item, IsOnInUse, read_touches, IsOnPool, call_count, due_may_run, job_at_front, job_front, job_some, target_inside, HoldsRead, JobRun, JobSteps, begun_run, target_spot, begun_goes_on, present_in, right_begins, step_goes_on, target_at, CopyRun, Core, CoreState, IsCore, alone_below, as_begun, jobs_begun, BeginsJobSo, IsDue, IsJobOf, StepsJob, hold_for_job, TurnGoesOn}
 use Rattle.range_locks.specs.Gaining.{Gains}
 use Rattle.core_copy.proofs.Steps.{outs_by_step}
 use Rattle.core_turns.proofs.Holds.{front_passes, job_ended}
@@ -17,23 +17,18 @@ pub job_begins : {core : Core} {job : Job} {actor : ℕ} {hold : Hold} {holds : 
     → IsClear core.holds hold.lo hold.hi Exclusive
     → BeginsJobSo core (record core { holds = holds; copying = Some actor }) actor
     (record { hold = hold; job = begun_run core.pool.uber.reflow job })
-job_begins {core} {job} {hold = hold} {holds} is due hold_is gains clear =
+job_begins {core} {job} {actor} {hold} {holds} is due hold_is gains clear =
     let may = due_runs core job due in
     let begins = right_begins (as_begun core).uber core.pool.done job is.is.right may in
-    record {
-      due = due;
-      run_is = search;
-      clear = clear;
-      holds = gains;
-      rest = refl;
-      of = record {
-        under_way = cc;
-        goes = search begun_goes_on;
-        holds = gains_item core.holds holds hold gains;
-        hold_is = cc;
-        read = λ whole odd. cc;
-      };
-    }
+    let of : IsJobOf (record core { holds = holds; copying = Some actor })
+    (record { hold = hold; job = begun_run core.pool.uber.reflow job }) = record {
+      under_way = cc;
+      goes = search begun_goes_on;
+      holds = gains_item core.holds holds hold gains;
+      hold_is = cc;
+      read = λ whole odd. cc;
+    } in
+    search
 
 -- ---- a job goes on
 

@@ -14,11 +14,7 @@ pub record Rearranges (old new : Core) : Type 0 where
 
 -- So all widths stay.
 pub rearranged_keeps : (old new : Core) → Rearranges old new → KeepsCalls old new
-rearranged_keeps old new change = record {
-  widths = search arith;
-  copying = cc;
-  within = search arith;
-}
+rearranged_keeps old new change = search arith
 
 -- ---- a put begins
 

@@ -55,19 +55,15 @@ module _ {core : Core} {begun : Blocks} {range : PutRange} (begins : BeginsPut c
       → ((past : ℕ) (kept : List IndexEntry) → SparesAll begun.parity begun.births kept (put_run range)
       → NoneFree begun past kept → NoneFree after past kept)
       → LeavesBlocks core (record core { pool = record core.pool { blocks = after }; holds = holds })
-  put_dropped {after} {holds} same parity births entries dropped under_after kept_after = record {
-    rest = λ i. record core { pool = record core.pool { blocks = after }; holds = same i };
-    parity = cc;
-    births = cc;
-    entries = cc;
-    capacity = cc;
-    adds = search adds_taken_back;
-    taken = search was_there;
-    held = cc;
-    under = λ ranges all. under_after ranges (ranges ++ range ∷ []) (search (append-nil, arith)) (under ranges all);
-    kept = λ past listed none. kept_after past listed
-        (rw (begins.parity, begins.births) (spares past listed none)) (kept past listed none);
-  }
+  put_dropped {after} {holds} same parity births entries dropped under_after kept_after =
+      search (adds_taken_back, was_there, under_on, kept_on, arith)
+    where
+      under_on : (ranges : List PutRange) → AreUnderWay core.pool.blocks ranges → AreUnderWay after ranges
+      under_on ranges all = under_after ranges (ranges ++ range ∷ []) (search (append-nil, arith)) (under ranges all)
+
+      kept_on : (past : ℕ) (listed : List IndexEntry) → NoneFree core.pool.blocks past listed → NoneFree after past listed
+      kept_on past listed none = kept_after past listed (rw (begins.parity, begins.births) (spares past listed none))
+          (kept past listed none)
 
 -- The core of a put that begins is one still.
 pub put_begins_core : {core : Core} {actor : ℕ} {range : PutRange} {begun : Blocks} {hold : Hold} {holds : List Hold}
