@@ -16,17 +16,14 @@ none_in_common_turn run (Copying other) clear = search turned
 none_in_common_turn run other clear = λ sector there here. clear sector here there
 
 pub beside_turn : (one other : HoldingCall) → AreBeside one other → AreBeside other one
-beside_turn one other beside = record {
-  actors = λ same. beside.actors (cc);
-  apart = none_in_common_turn one other beside.apart;
-}
+beside_turn one other beside = grind (arith, none_in_common_turn)
 
 -- The range of a put is one of the ranges,
 pub range_listed : (calls : List HoldingCall) (run : PutRun) → Contains calls (Putting run)
     → Contains (ranges_of calls) run.range
 range_listed [] run listed = absurd (contains_none (Putting run) listed)
 range_listed (call ∷ calls) run listed = ⊎_elim
-    (λ (same : Putting run ≡ call). rw (← same) (contains_head run.range (ranges_of calls)))
+    (search (contains_head, arith))
     (λ rest. behind call (range_listed calls run rest)) (contains_cases call calls (Putting run) listed)
   where
     behind : (call : HoldingCall) → Contains (ranges_of calls) run.range → Contains (ranges_of (call ∷ calls)) run.range
@@ -45,7 +42,7 @@ pub calls_gain : {old new : Core} {left calls : List HoldingCall} {call : Holdin
     → AreUnderWay new.pool.blocks (ranges_of calls) → IsCallOfCore new call
     → ((other : HoldingCall) → Contains left other → AreBeside call other) → AreCallsOf old left → AreCallsOf new calls
 calls_gain gains keeps kept under of beside are = record {
-  each = each_gained gains of (λ other was. let old_of = are.each other was in search (call_of_stays, hold_listed));
+  each = each_gained gains of (search (call_of_stays, hold_listed, are.each, arith));
   under = under;
   beside = search (pairs_gain, beside_turn);
 }
@@ -55,7 +52,7 @@ pub calls_lose : {old new : Core} {left calls : List HoldingCall} {call : Holdin
     → KeepsCalls old new → EndsHold old.holds new.holds (hold_of_call call)
     → AreUnderWay new.pool.blocks (ranges_of left) → AreCallsOf old calls → AreCallsOf new left
 calls_lose {old} {new} {left} {calls} {call} gains keeps ends under are = record {
-  each = λ other listed. let of = are.each other (gains_old left calls call other gains listed) in
+  each = λ other listed. let of = are.each other (search (gains_old, arith)) in
       call_of_stays old new other keeps
       (ends_other old.holds new.holds (hold_of_call call) (hold_of_call other) ends (hold_listed old other of)
       (λ same. (pairs_beside AreBeside beside_turn calls left call other gains are.beside listed).actors (cc))) of;
@@ -69,13 +66,10 @@ pub calls_swap : {core : Core} {left calls nexts : List HoldingCall} {call next 
     → ((other : HoldingCall) → HaveNoneInCommon call other → HaveNoneInCommon next other) → IsCallOfCore core next
     → AreUnderWay core.pool.blocks (ranges_of nexts) → AreCallsOf core calls → AreCallsOf core nexts
 calls_swap {left = left} {calls} {nexts} {call} {next} gains again hold apart of under are = record {
-  each = each_gained again of (λ other was. are.each other (gains_old left calls call other gains was));
+  each = each_gained again of (search (gains_old, are.each, arith));
   under = under;
   beside = pairs_gain AreBeside beside_turn left nexts next again
       (λ other listed.
       let was = pairs_beside AreBeside beside_turn calls left call other gains are.beside listed in
-      record {
-        actors = λ same. was.actors (cc);
-        apart = apart other was.apart;
-      }) (search (pairs_lose, beside_turn));
+      search arith) (search (pairs_lose, beside_turn));
 }

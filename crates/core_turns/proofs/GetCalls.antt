@@ -33,20 +33,18 @@ get_begins_calls {old} {new} {run} {left} {calls} actor id asked reads is begins
         })
     none_in_common (Putting put) listed =
         rw (← its_layout) (λ sector here there. (are.under.each put.range (range_listed left put listed)).clear
-        run.entry (found_listed old.pool.blocks.table.entries id run.entry begins.1) sector there here)
+        run.entry (search (found_listed, arith)) sector there here)
 
 -- One that goes on with its block has no more in common with others than before.
 read_apart : (run next : GetRun) (other : HoldingCall) → next.read.layout ≡ run.read.layout → next.hold ≡ run.hold
     → HaveNoneInCommon (Reading run) other → HaveNoneInCommon (Reading next) other
-read_apart run next (Reading other) same hold apart = tt
-read_apart run next (Copying other) same hold apart = search arith
-read_apart run next (Putting put) same hold apart = rw same apart
+read_apart run next other same hold apart = grind arith
 
 -- Its hold is the one that it had,
 read_swaps : {core : Core} {run next : GetRun} {left calls nexts : List HoldingCall} → next.hold ≡ run.hold
     → next.read.layout ≡ run.read.layout → IsReadKind next.kind × IsGetOf core next → Gains left calls (Reading run)
     → Gains left nexts (Reading next) → AreCallsOf core calls → AreCallsOf core nexts
-read_swaps {core} {run} {next} {left} {calls} {nexts} hold layout of gains again are =
+read_swaps hold layout of gains again are =
     calls_swap gains again hold (search read_apart) of (rw (ranges_read again, ← ranges_read gains) are.under) are
 
 -- when one more column is read,
@@ -55,7 +53,7 @@ pub get_reads_calls : {before after : CoreState} {run next : GetRun} {left calls
     → AreCallsOf before.core calls → AreCallsOf after.core nexts
 get_reads_calls {before} {after} {run} {next} {left} {calls} reads gains again are =
     let of = are.each (Reading run) (gains_item left calls (Reading run) gains) in
-    read_swaps (cc) reads.3.on.layout_is (search arith, get_of_more before after (More next) of.1 reads)
+    read_swaps (cc) reads.3.on.layout_is (search arith, search (get_of_more, arith))
     gains again (calls_stay before.core after.core calls reads.2 (search (outs_by_step, arith)) are)
 
 -- and when the block is solved.
@@ -69,5 +67,5 @@ get_solves_calls {core} {run} {next} {left} {calls} solves gains again are =
 pub get_ends_calls : {old new : Core} {run : GetRun} {left calls : List HoldingCall} → OnlyHolds old new
     → EndsHold old.holds new.holds run.hold → Gains left calls (Reading run) → AreCallsOf old calls
     → AreCallsOf new left
-get_ends_calls {old} {new} {run} {left} {calls} core ends gains are =
+get_ends_calls {old} {new} core ends gains are =
     calls_lose gains (calls_held old new core) ends (rw (core, ← ranges_read gains) are.under) are

@@ -1,5 +1,5 @@
 -- What stands between two turns, over the turns of reads.
-use Rattle.core_turns.proofs.Words.{◌≡◌, ◌≢◌, ◌⊎◌, inl, inr, ⊎_elim, ℕ, ◌<◌, List, Option, Some, sym, ◌∙◌, ap, subst, Contains, Disk, Lawful, Unchanged, Hold, EndsHold, rows_of, Gains, Kind, Map, Kept, Setting, Nowhere, gains_old, gains_item, gains_cases, OnlyFailedGoOut, point_of, IsAtColumn, CommitRun, GetRun, PutRun, More, Core, IsCore, CoreState, at_disk, BeginsGet, HoldsGet, ReadsTurn, SolvesGet, HoldingCall, Putting, Reading, SetsContent, actor_of, HoldsCall, AreCallsOf, Stands}
+use Rattle.core_turns.proofs.Words.{◌≡◌, ◌≢◌, ◌⊎◌, inl, inr, ⊎_elim, ℕ, ◌<◌, List, Option, Some, sym, ◌∙◌, ap, subst, Contains, Disk, Lawful, Unchanged, Hold, EndsHold, rows_of, Gains, Kind, Map, Kept, Setting, Nowhere, gains_old, gains_item, gains_cases, OnlyFailedGoOut, point_of, IsAtColumn, CommitRun, GetRun, PutRun, More, Core, IsCore, CoreState, at_disk, BeginsGet, HoldsGet, ReadsTurn, SolvesGet, HoldingCall, Putting, Reading, SetsContent, actor_of, HoldsCall, AreCallsOf, Stands, arith}
 use Rattle.core_turns.proofs.TakenBack.{each_gained}
 use Rattle.core_turns.proofs.Frames.{call_off_nowhere, off_nowhere, leaves_read}
 use Rattle.core_turns.proofs.StandFrames.{groups_read, stands_frame}
@@ -49,7 +49,7 @@ module _ {setting : Setting} {last : Kept} {begun : List Kept} {map : Map} {cont
       → (content : List ℕ) × (map id ≡ Some content)
       × ((nows : ℕ → List ℕ) (calls : List HoldingCall) → SetsContent contents nows actor content
       → Gains left calls (Reading run) → Stands setting last begun map nows calls commit (at_disk new disk))
-  get_begins_stands {old} {new} {disk} {run} {left} actor id asked is begins apart stands =
+  get_begins_stands {old} {new} {disk} {run} actor id asked is begins apart stands =
       let found = get_finds map old new disk actor id asked (More run) stands.holds begins in (
         found.0,
         found.1,
@@ -67,17 +67,17 @@ module _ {setting : Setting} {last : Kept} {begun : List Kept} {map : Map} {cont
       → Lawful after.disk → Gains left calls (Reading run) → Gains left nexts (Reading next)
       → AreCallsOf before.core calls → Stands setting last begun map contents calls commit before
       → Stands setting last begun map contents nexts commit after
-  get_reads_stands {before} {after} {run} {next} {left} {calls} {nexts} is place low reads unchanged outs lawful gains
+  get_reads_stands {before} {after} {run} {next} {left} {calls} is place low reads unchanged outs lawful gains
       again are stands =
       let listed = gains_item left calls (Reading run) gains in
       let leaves = leaves_read before after is.is.front reads.2 outs.still unchanged in
       let still = stands_frame Nowhere before after leaves (search call_off_nowhere) (search off_nowhere) reads.2
       unchanged.goes_on.later (search groups_read) stands in
-      stands_with (λ group spares put has. spares put (call_loses gains put (read_adds again put has)))
+      stands_with (search (call_loses, read_adds, arith))
       (each_gained again (subst (λ (actor : ℕ). HoldsGet (contents actor) after next)
       (sym (ap (λ (r : GetRun). r.hold.actor) reads.1)) (get_reads before after (More next) is.is.front
       (are.each (Reading run) listed).1 place low unchanged outs (stands.each (Reading run) listed) reads))
-      (λ call was. still.each call (gains_old left calls (Reading run) call gains was))) still
+      (search (gains_old, still.each, arith))) still
 
   -- and is solved.
   pub get_solves_stands : {state : CoreState} {run next : GetRun} {left calls nexts : List HoldingCall}
@@ -85,13 +85,13 @@ module _ {setting : Setting} {last : Kept} {begun : List Kept} {map : Map} {cont
       → Gains left nexts (Reading next) → AreCallsOf state.core calls
       → Stands setting last begun map contents calls commit state
       → Stands setting last begun map contents nexts commit state
-  get_solves_stands {state} {run} {next} {left} {calls} {nexts} is solves whole gains again are stands =
+  get_solves_stands {state} {run} {next} {left} {calls} is solves whole gains again are stands =
       let listed = gains_item left calls (Reading run) gains in
-      stands_with (λ group spares put has. spares put (call_loses gains put (read_adds again put has)))
+      stands_with (search (call_loses, read_adds, arith))
       (each_gained again (subst (λ (actor : ℕ). HoldsGet (contents actor) state next)
       (sym (ap (λ (r : GetRun). r.hold.actor) solves.rest)) (get_solves (contents run.hold.actor) state run next whole
       (are.each (Reading run) listed).1 (stands.each (Reading run) listed) solves))
-      (λ call was. stands.each call (gains_old left calls (Reading run) call gains was))) stands
+      (search (gains_old, stands.each, arith))) stands
 
   -- A read is gone, and its hold with it.
   pub get_ends_stands : {old new : Core} {disk : Disk} {run : GetRun} {left calls : List HoldingCall} → IsCore old

@@ -20,7 +20,7 @@ pub job_begins_calls : {old new : Core} {run : CopyRun} {left calls : List Holdi
     → BeginsJobSo old new actor run → ((call : HoldingCall) → Contains left call → actor_of call ≢ actor)
     → Gains left calls (Copying run) → AreCallsOf old left → AreCallsOf new calls
 job_begins_calls {old} {new} {run} {left} {calls} actor begins differs gains are = record {
-  each = each_gained gains begins.of (λ call was. of_call call (are.each call was));
+  each = each_gained gains begins.of (search (of_call, arith));
   under = rw (ranges_copied gains) (search arith);
   beside = pairs_gain AreBeside beside_turn left calls (Copying run) gains (search (none_in_common, arith)) are.beside;
 }
@@ -44,7 +44,7 @@ pub job_steps_calls : {before after : CoreState} {run next : CopyRun} {left call
     → StepsJob before run after next → IsJobOf after.core next → IsWithin before.core.pool.out after.core.pool.out
     → Gains left calls (Copying run) → Gains left nexts (Copying next) → AreCallsOf before.core calls
     → AreCallsOf after.core nexts
-job_steps_calls {before} {after} {run} {next} {left} {calls} {nexts} steps of within gains again are =
+job_steps_calls {before} {after} {run} {next} {left} {calls} steps of within gains again are =
     let now = calls_stay before.core after.core calls steps.rest within are in
     calls_swap gains again steps.hold same_apart of (rw (ranges_copied again, ← ranges_copied gains) now.under) now
   where
@@ -57,7 +57,7 @@ job_steps_calls {before} {after} {run} {next} {left} {calls} {nexts} steps of wi
 pub job_drops_calls : {old new : Core} {run : CopyRun} {left calls : List HoldingCall} → DropsJob old new run
     → Gains left calls (Copying run) → AreCallsOf old calls → AreCallsOf new left
 job_drops_calls {old} {new} {run} {left} {calls} drops gains are = record {
-  each = λ call listed. of_call call listed (are.each call (search gains_old));
+  each = search (of_call, gains_old, are.each, arith);
   under = rw (drops.rest, ← ranges_copied gains) are.under;
   beside = search (pairs_lose, beside_turn);
 }

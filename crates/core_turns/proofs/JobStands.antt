@@ -1,5 +1,5 @@
 -- What stands between two turns stands over each turn of a job, and so does what images keep.
-use Rattle.core_turns.proofs.Words.{◌≡◌, inl, HoldsCall, inr, ⊎_elim, ℕ, ◌<◌, ◌≤◌, List, [], ◌∷◌, Option, sym, ◌∙◌, ap, subst, arith, Contains, Disk, Lawful, Tells, TouchesOnly, Hold, Reflow, Layout, Gains, Fill, IsWithin, Uber, count_none, AreAlike, Map, Kept, Setting, IsSound, point_of, IsSpare, IsRowOf, KeepsSince, Cell, RightAt, contains_cases, contains_none, contains_head, contains_tail, chooses, around_alone, around_begins, IsCommitChoice, copied_of, IsCellIn, IsClose, StandAround, CopiesSector, IsTarget, MovesMark, call_count, choice_moves, sound_close, job_at_front, job_spare, target_free, gains_cases, gains_item, gains_old, IsInPool, CommitRun, shown_at, Stage, Lays, sound_paged, begun_run, present_sector, HoldsJob, present_in, run_begins, run_steps, step_goes_on, target_at, listed_in_pool, CopyRun, PutRun, Core, CoreState, IsCore, as_begun, at_disk, HasBankOf, BeginsJobSo, CopiesCells, DropsJob, IsJobOf, StepsJob, HoldingCall, Putting, Reading, Copying, AreBeside, AreCallsOf, CommitStands, IsCallOfCore, Stands, shown_of}
+use Rattle.core_turns.proofs.Words.{◌≡◌, inl, inr, ⊎_elim, ℕ, ◌<◌, ◌≤◌, List, [], ◌∷◌, Option, sym, ◌∙◌, ap, subst, arith, Contains, Disk, Lawful, Tells, TouchesOnly, Hold, Reflow, Layout, Gains, Fill, IsWithin, Uber, count_none, AreAlike, Map, Kept, Setting, IsSound, point_of, IsSpare, IsRowOf, KeepsSince, Cell, RightAt, contains_cases, contains_none, contains_head, contains_tail, chooses, around_alone, around_begins, IsCommitChoice, copied_of, IsCellIn, IsClose, StandAround, CopiesSector, IsTarget, MovesMark, call_count, choice_moves, sound_close, job_at_front, job_spare, target_free, gains_cases, gains_item, gains_old, IsInPool, CommitRun, shown_at, Stage, Lays, sound_paged, begun_run, present_sector, HoldsJob, present_in, run_begins, run_steps, step_goes_on, target_at, listed_in_pool, CopyRun, Core, CoreState, IsCore, as_begun, at_disk, HasBankOf, BeginsJobSo, CopiesCells, DropsJob, IsJobOf, StepsJob, HoldingCall, Putting, Reading, Copying, AreBeside, AreCallsOf, CommitStands, HoldsCall, IsCallOfCore, Stands, shown_of}
 use Rattle.reflow_mark.specs.declared.reflow.State.TheVariants.{None as Unmoved}
 use Rattle.uberblock_ring.specs.Devices.{count_of}
 use Rattle.core_commit.specs.declared.commit_run.Stage.TheVariants.{Signs}
@@ -13,13 +13,10 @@ use Rattle.core_turns.proofs.JobLaws.{all_used, target_data}
 use Rattle.core_turns.proofs.JobTurns.{IsWrittenBy, due_runs, hold_at_front, none_left, step_touches_target}
 use Rattle.core_turns.proofs.WritesBeside.{AreSpare, since_written, writes_stand}
 
-copying_putting : {job : CopyRun} {put : PutRun} → Copying job ≡ Putting put → ⊥
-copying_putting same = cc
-
 -- A job that comes adds no put.
 job_adds : {left calls : List HoldingCall} {run : CopyRun} → Gains left calls (Copying run) → AddsNoPut left calls
 job_adds {left} {calls} {run} gains put listed = ⊎_elim
-    (search (copying_putting, arith))
+    (λ (same : Copying run ≡ Putting put). cc)
     (λ was. was) (gains_cases left calls (Copying run) (Putting put) gains listed)
 
 -- No device is none.

@@ -61,9 +61,9 @@ module _ {core : Core} {begun : Blocks} {range : PutRange} (begins : BeginsPut c
       under_on : (ranges : List PutRange) → AreUnderWay core.pool.blocks ranges → AreUnderWay after ranges
       under_on ranges all = under_after ranges (ranges ++ range ∷ []) (search (append-nil, arith)) (under ranges all)
 
-      kept_on : (past : ℕ) (listed : List IndexEntry) → NoneFree core.pool.blocks past listed → NoneFree after past listed
-      kept_on past listed none = kept_after past listed (rw (begins.parity, begins.births) (spares past listed none))
-          (kept past listed none)
+      kept_on : (past : ℕ) (group : List IndexEntry) → NoneFree core.pool.blocks past group → NoneFree after past group
+      kept_on past group none =
+          kept_after past group (rw (begins.parity, begins.births) (spares past group none)) (kept past group none)
 
 -- The core of a put that begins is one still.
 pub put_begins_core : {core : Core} {actor : ℕ} {range : PutRange} {begun : Blocks} {hold : Hold} {holds : List Hold}
