@@ -1,5 +1,5 @@
 -- A job beside puts, and beside the answer of a commit.
-use Rattle.core_turns.proofs.Words.{◌≡◌, ⊎_elim, ℕ, ◌<◌, ◌≤◌, List, [], sym, subst, arith, cases_lt, Hold, Overlaps, State, Valid, Moved, Reflow, NeedsOld, Layout, end_of, sector_of, IsRequiredPlace, NeedsScratch, are_required, Job, job_begin, job_end, Point, Cell, IsCell, RightAt, IsCommitChoice, MayRecord, front_behind, IsClose, CopiesSector, IsTarget, MovesMark, choice_moves, front_stays_behind, same_targets, cell_close, job_at_front, job_some, target_free, IsInPool, close_to_end, in_pool, one_sector, widths_of, JobRun, GoesOnIn, HoldsJob, run_beside, moved_goes_on, moved_holds, sector_inside, CopyRun, PutRun, Core, IsCore, hold_for, CopiesCells, IsJobOf, IsPutOf, ShareNoSector}
+use Rattle.core_turns.proofs.Words.{◌≡◌, ⊎_elim, ℕ, ◌<◌, ◌≤◌, List, [], sym, subst, arith, cases_lt, Hold, Overlaps, State, Valid, Moved, Reflow, NeedsOld, Layout, end_of, sector_of, IsRequiredPlace, NeedsScratch, are_required, Job, job_begin, job_end, Point, Cell, IsCell, RightAt, IsCommitChoice, MayRecord, front_behind, IsClose, CopiesSector, IsTarget, MovesMark, choice_moves, front_stays_behind, cell_close, job_at_front, job_some, target_free, IsInPool, close_to_end, in_pool, one_sector, widths_of, JobRun, GoesOnIn, HoldsJob, run_beside, moved_goes_on, moved_holds, sector_inside, CopyRun, PutRun, Core, IsCore, hold_for, CopiesCells, IsJobOf, IsPutOf, ShareNoSector}
 use Rattle.reflow_mark.specs.declared.reflow.State.TheVariants.{None}
 use Rattle.core_turns.proofs.Beside.{IsWrittenTo}
 use Rattle.core_turns.proofs.Commits.{change_below}
@@ -90,7 +90,7 @@ cells_behind reflow done run holds chosen point choice held = search (front_stay
     on = search (moved_goes_on, moves)
 
     ends : job_end chosen run.job ≡ job_end reflow run.job
-    ends = search (same_targets, moves)
+    ends = search moves
 
     close_before : (cell : Cell) → IsClose chosen cell → IsClose reflow cell
     close_before cell close = search arith

@@ -66,7 +66,7 @@ module _ (from to rows mark done : ℕ) (holds : List Hold) (first row_end secto
   same_stays state chosen same outside = cc
 
   valid_stays : Stays None (record (at None) { state = Valid; mark = 32 * to })
-  valid_stays outside = search (not_so, above, beyond)
+  valid_stays outside = search (above, beyond)
 
   drained_stays : mark ≡ 32 * to → Stays Valid (record (at Valid) { state = Moved; mark = 32 * to })
   drained_stays full outside = search (not_so, above, beyond, arith)
@@ -80,7 +80,7 @@ module _ (from to rows mark done : ℕ) (holds : List Hold) (first row_end secto
   -- and one that comes to the end of the pool
   ended_stays : mark < rows * from → Stays Moved (record { from = to; to = to; rows = rows; mark = 0; state = None })
   ended_stays low (inl empty) = absurd (omega arith)
-  ended_stays low (inr (inl before)) = search (at_once, by_then)
+  ended_stays low (inr (inl before)) = search by_then
   ended_stays low (inr (inr behind)) = absurd (omega arith)
 
   moved_to_stays : (next : ℕ) (ends : Bool) → mark < rows * from → mark ≤ next

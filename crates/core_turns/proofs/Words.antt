@@ -1,6 +1,6 @@
 -- The words that the proofs of this crate use, each from where it stands.
 pub use Rattle.sha2.specs.Sha256.{sha256}
-pub use Rattle.std.proofs.Common.{All, Bool, Err, List, None, Ok, Option, Result, Some, [], ap, append-nil, arith, false, inl, inr, length, refl, rules, subst, sym, true, ℕ, ⊎_elim, ◌%◌, ◌*◌, ◌++◌, ◌+◌, ◌-◌, ◌/◌, ◌<◌, ◌^◌, ◌∙◌, ◌∷◌, ◌≡◌, ◌≢◌, ◌≤◌, ◌⊎◌}
+pub use Rattle.std.proofs.Common.{Bool, Err, List, None, Ok, Option, Result, Some, [], ap, append-nil, arith, false, inl, inr, length, refl, rules, subst, sym, true, ℕ, ⊎_elim, ◌*◌, ◌++◌, ◌+◌, ◌-◌, ◌/◌, ◌<◌, ◌^◌, ◌∙◌, ◌∷◌, ◌≡◌, ◌≢◌, ◌≤◌, ◌⊎◌}
 pub use Rattle.std.proofs.Math.Nat.{mul-le-mul_left, pow-le-pow_right}
 pub use Rattle.std.proofs.lemmas.Bool.{cases_lt, true≢false}
 pub use Rattle.std.proofs.lemmas.Bool.Decides.{nat_tests}
@@ -8,7 +8,7 @@ pub use Rattle.std.proofs.lemmas.Grind.{common_steps}
 pub use Rattle.std.proofs.lemmas.List.Elements.{All-cons, All-nil, filter_map-append}
 pub use Rattle.std.proofs.lemmas.List.Sums.{sum_by-append, sum_by-cons}
 pub use Rattle.std.proofs.lemmas.Option.{slice_get-get_or, slice_get_within}
-pub use Rattle.std.specs.Prelude.{Contains, IfSome, OnErr, OnOk, cond, count_by, if◌then◌else◌, nat_le, nat_lt, slice_get, slice_index_or, sum_by, ◌==◌}
+pub use Rattle.std.specs.Prelude.{Contains, OnErr, OnOk, cond, count_by, if◌then◌else◌, nat_le, slice_get, slice_index_or, sum_by, ◌==◌}
 pub use Rattle.bank_trait.proofs.Moments.{later_refl}
 pub use Rattle.bank_trait.proofs.Touches.{synced_touches, tells_later, touches_none, touches_widen, wrote_touches}
 pub use Rattle.bank_trait.specs.Disk.{Continues, Disk, Later, Lawful, Unchanged}
@@ -26,20 +26,19 @@ pub use Rattle.reflow_mark.specs.declared.stand.Stand.{Stand}
 pub use Rattle.range_locks.specs.Holds.{EndsHold, HasSectors, IsClear, Overlaps}
 pub use Rattle.range_locks.specs.Order.{exclusive_count, is_exclusive}
 pub use Rattle.range_locks.specs.declared.hold.Hold.{Hold}
-pub use Rattle.range_locks.specs.declared.hold.HoldKind.{HoldKind}
 pub use Rattle.range_locks.specs.declared.hold.HoldKind.TheVariants.{Exclusive, Shared}
 pub use Rattle.block_record.specs.Bytes.{IsDigest}
 pub use Rattle.block_record.specs.Page.{IsIndex, index_page}
 pub use Rattle.block_record.specs.declared.entry.IndexEntry.{IndexEntry}
 pub use Rattle.shadow_write.proofs.Whole.{are_required}
-pub use Rattle.shadow_write.specs.Required.{IsFrontIn, IsRequiredPlace, NeedsScratch, front_after_stop}
+pub use Rattle.shadow_write.specs.Required.{IsRequiredPlace, NeedsScratch, front_after_stop}
 pub use Rattle.shadow_write.specs.Writes.{writes_of}
 pub use Rattle.shadow_write.specs.declared.write.Write.{Write}
 pub use Rattle.reflow_band.proofs.Within.{scratch_within, stop_asks_no_more}
 pub use Rattle.reflow_band.specs.Band.{IsFrontOf, copied_of}
 pub use Rattle.reflow_copier.specs.Jobs.{job_begin, job_end}
 pub use Rattle.reflow_copier.specs.declared.job.Job.{Job}
-pub use Rattle.reflow_copier.specs.declared.job.Job.TheVariants.{Chunk, Drain, Fill}
+pub use Rattle.reflow_copier.specs.declared.job.Job.TheVariants.{Fill}
 pub use Rattle.space_alloc.specs.Space.{Gains, IsDropping}
 pub use Rattle.block_table.proofs.Tables.{few_entries}
 pub use Rattle.block_table.specs.Table.{ChangesOnly, IsTable, entry_of, without_one}
@@ -55,7 +54,6 @@ pub use Rattle.reconstruct.specs.Columns.{column_bytes}
 pub use Rattle.reconstruct.specs.Lost.{AreBytes, IsLeftOver}
 pub use Rattle.reconstruct.specs.Rows.{Rows, column_at}
 pub use Rattle.core_state.proofs.Frames.{Nowhere, none_lost, unchanged_frames}
-pub use Rattle.core_state.proofs.Joining.{ReadsNoUber}
 pub use Rattle.core_state.proofs.Knowing.{knows_frame}
 pub use Rattle.core_state.proofs.Listed.{contains_cases, contains_head, contains_none, contains_tail}
 pub use Rattle.core_state.proofs.Places.{IsDataSector, data_is_no_page, page_place}
@@ -69,7 +67,6 @@ pub use Rattle.core_state.specs.JobTurns.{MayRun}
 pub use Rattle.core_state.specs.Keeps.{Kept, Setting}
 pub use Rattle.core_state.specs.Map.{Map, with_block}
 pub use Rattle.core_state.specs.Moment.{IsRowOf, KeepsSince}
-pub use Rattle.core_state.specs.Shown.{read_devices}
 pub use Rattle.core_state.specs.Whole.{Cell, IsCell, RightAt}
 pub use Rattle.core_state.specs.declared.answer.Answer.{Answer}
 pub use Rattle.core_state.specs.declared.answer.Kind.{Kind}
@@ -83,7 +80,7 @@ pub use Rattle.spare_write.specs.Around.{IsCellIn, IsClose, StandAround}
 pub use Rattle.mark_advance.proofs.Advance.{around_alone, around_begins}
 pub use Rattle.mark_advance.proofs.Apart.{held_outside}
 pub use Rattle.mark_advance.proofs.Follows.{choice_widths, follows}
-pub use Rattle.mark_advance.specs.Behind.{FollowsOn, IsOutside, KeepsOrEnds, RowsStand, front_behind, front_in}
+pub use Rattle.mark_advance.specs.Behind.{FollowsOn, IsOutside, KeepsOrEnds, RowsStand, front_behind}
 pub use Rattle.job_copy.proofs.Beside.{choice_moves, front_stays_behind, same_targets}
 pub use Rattle.job_copy.proofs.Close.{cell_below, cell_close, sound_close}
 pub use Rattle.job_copy.proofs.Due.{due_may_run}
@@ -97,7 +94,7 @@ pub use Rattle.core_commit.proofs.Halves.{goes_on, sound_paged}
 pub use Rattle.core_commit.proofs.Stepping.{ready_keeps, steps_same, steps_went}
 pub use Rattle.core_commit.proofs.Touching.{touched_more, touched_none}
 pub use Rattle.core_commit.proofs.Widening.{commit_widened, widened_right}
-pub use Rattle.core_commit.specs.CommitTurns.{CommitRun, CommitSteps, HasEnded, IsBeside, IsCommitting, IsLaidDown, IsMadeReady, shown_at, shown_by}
+pub use Rattle.core_commit.specs.CommitTurns.{CommitRun, CommitSteps, HasEnded, IsBeside, IsCommitting, IsLaidDown, shown_at, shown_by}
 pub use Rattle.core_commit.specs.Ran.{FitsBank}
 pub use Rattle.core_commit.specs.Spared.{IsOnInUse, SparesData}
 pub use Rattle.core_commit.specs.Widening.{IsWidenable, MayWiden, widened_kept, widened_run, widened_uber}
@@ -119,7 +116,7 @@ pub use Rattle.core_blocks.proofs.Listed.{among_listed, found_id, found_listed, 
 pub use Rattle.core_blocks.proofs.Lists.{first_listed, gains_cases, gains_item, gains_old, listed_cases, pairs_beside, pairs_gain, pairs_lose, rest_listed}
 pub use Rattle.core_blocks.proofs.Runs.{clear_turned, free_of_taken}
 pub use Rattle.core_blocks.proofs.Usage.{adds_held_back, adds_none, adds_taken_back}
-pub use Rattle.core_blocks.specs.Blocks.{AreInStep, AreUnderWay, Blocks, IsListed, IsUnderWay, layout_run, put_run, range_of, run_of}
+pub use Rattle.core_blocks.specs.Blocks.{AreInStep, AreUnderWay, Blocks, IsListed, IsUnderWay, layout_run, put_run, range_of}
 pub use Rattle.core_blocks.specs.Kept.{NoneFree, SparesAll}
 pub use Rattle.core_blocks.specs.Puts.{BeginsPut, HoldsBack, IsAsBefore, IsPutCause, IsRangeFor, sectors_taken}
 pub use Rattle.core_blocks.specs.Runs.{AreClear}
@@ -131,8 +128,8 @@ pub use Rattle.core_client.proofs.Gotten.{outs_by_step}
 pub use Rattle.core_client.proofs.Outs.{outs_called, outs_none}
 pub use Rattle.core_client.proofs.Places.{close_to_end, in_pool, one_sector, widths_of}
 pub use Rattle.core_client.proofs.Stored.{plan_below, plan_inside}
-pub use Rattle.core_client.specs.BlockTurns.{BlockRead, BlockWrite, IsAtColumn, IsColumnOf, IsReadBegun, IsWrittenSoFar, ReadsColumn}
-pub use Rattle.core_client.specs.Got.{HasLostFew, got_of}
+pub use Rattle.core_client.specs.BlockTurns.{BlockRead, BlockWrite, IsAtColumn, IsColumnOf, IsReadBegun}
+pub use Rattle.core_client.specs.Got.{HasLostFew}
 pub use Rattle.core_client.specs.Outs.{OnlyFailedGoOut}
 pub use Rattle.core_client.specs.Pool.{HasPool, IsInPool, IsRightBlock}
 pub use Rattle.core_client.specs.Reading.{spot_in, spot_of}
@@ -147,7 +144,6 @@ pub use Rattle.core_open.proofs.Others.{read_touches}
 pub use Rattle.core_open.proofs.Renewing.{none_above_more}
 pub use Rattle.core_open.proofs.Unchanged.{unchanged_none}
 pub use Rattle.core_open.proofs.Unhindered.{none_empty}
-pub use Rattle.core_open.specs.Holds.{shape_of}
 pub use Rattle.open_pool.proofs.Answered.{answered_block, answered_in_pool, answered_kept, answered_layout, answered_map, answered_pool, answered_range, answered_spares, answered_step, answered_under, may_grow_now}
 pub use Rattle.open_pool.proofs.Banks.{bank_later, count_grows}
 pub use Rattle.open_pool.proofs.Committing.{may_commit}
@@ -157,20 +153,19 @@ pub use Rattle.open_pool.proofs.Holding.{block_stays, listed_in_pool, put_holds}
 pub use Rattle.open_pool.proofs.Layouts.{blocks_apart, entry_in_pool, sector_inside}
 pub use Rattle.open_pool.proofs.NextGroup.{IsReady, ready}
 pub use Rattle.open_pool.proofs.PutRanges.{entry_layout, entry_range, range_in_pool, tells_at}
-pub use Rattle.open_pool.specs.Answered.{IsNextGroup, answered_by, blocks_behind}
-pub use Rattle.open_pool.specs.HoldsGroup.{HoldsGroup}
+pub use Rattle.open_pool.specs.Answered.{answered_by, blocks_behind}
 pub use Rattle.open_pool.specs.NextGroup.{next_uber, uber_for}
 pub use Rattle.open_pool.specs.Pool.{HasBank, HoldsMap, IsPool, Pool, ReadsAs, pool_of, state_of}
-pub use Rattle.core_turns.specs.Attaching.{AttachGoesOn, BeginsJoining, EndsAttach, GoOutAndReach, HasNewDevice, HoldsAttach, IsAttachCommit, IsAttachRunOf, IsJoiningDevice, MayReachOn, OnlyGoOut, StepsAttach, StepsJoin, StopsAttach}
-pub use Rattle.core_turns.specs.Committing.{AnswersGroup, AnswersUber, BeginsCommit, BeginsCommitSo, DropsHold, IsCommitOf, IsHeldAlone, StepsCommit, TakesHold, commit_of, hold_for}
+pub use Rattle.core_turns.specs.Attaching.{AttachGoesOn, BeginsJoining, EndsAttach, GoOutAndReach, HasNewDevice, HoldsAttach, IsAttachCommit, IsAttachRunOf, MayReachOn, OnlyGoOut, StepsAttach, StepsJoin, StopsAttach}
+pub use Rattle.core_turns.specs.Committing.{AnswersGroup, BeginsCommit, BeginsCommitSo, DropsHold, IsCommitOf, IsHeldAlone, StepsCommit, TakesHold, commit_of, hold_for}
 pub use Rattle.core_turns.specs.Copying.{BeginsJobSo, CopiesCells, DropsJob, EndsJob, IsDue, IsJobOf, StepsJob, hold_for_job}
-pub use Rattle.core_turns.specs.Core.{Core, CoreState, HasBankOf, IsCore, alone_below, as_begun, at_disk, groups_begun, is_alone_below, jobs_begun, pool_at, reaching}
+pub use Rattle.core_turns.specs.Core.{Core, CoreState, HasBankOf, IsCore, alone_below, as_begun, at_disk, is_alone_below, jobs_begun, pool_at, reaching}
 pub use Rattle.core_turns.specs.Freeing.{FreesBlock, map_after_free}
-pub use Rattle.core_turns.specs.Getting.{AnswersSolved, BeginsGet, EndsGet, EndsGetSo, FindsGet, HasSameRow, HasTooManyOut, HoldsGet, IsGetOf, IsMoreOf, IsReadKind, IsReadRight, IsSolved, IsSolvedAs, KeepsGet, ReadsTurn, SolvesGet, TellsGet, answer_of, hold_of, to_solve_of}
-pub use Rattle.core_turns.specs.Putting.{AsksAlike, BeginsPutSo, BeginsPutTurn, FillsPut, GivesUp, HoldsPut, IsFilledWith, IsMadeUp, IsMorePut, IsPutOf, LeavesBlocks, StoresBlock, WritesOne, WritesTurn, filled_entry, hold_on, refused_turn}
+pub use Rattle.core_turns.specs.Getting.{AnswersSolved, BeginsGet, EndsGet, FindsGet, HasSameRow, HasTooManyOut, HoldsGet, IsGetOf, IsMoreOf, IsReadKind, IsReadRight, IsSolved, IsSolvedAs, KeepsGet, ReadsTurn, SolvesGet, TellsGet, answer_of, hold_of, to_solve_of}
+pub use Rattle.core_turns.specs.Putting.{AsksAlike, BeginsPutSo, BeginsPutTurn, FillsPut, GivesUp, HoldsPut, IsFilledWith, IsMorePut, IsPutOf, LeavesBlocks, StoresBlock, WritesOne, WritesTurn, filled_entry, hold_on, refused_turn}
 pub use Rattle.core_turns.specs.Rounds.{BeginsRound, IsRoundOf, StepsCopy}
 pub use Rattle.core_turns.specs.Steps.{turn_with}
-pub use Rattle.core_turns.specs.UnderWay.{AreBeside, AreCallsOf, CommitStands, Copying, GroupsStand, HaveNoneInCommon, HoldingCall, HoldsCall, IsCallOfCore, LiesInPool, NoCommitStands, PutsSpare, Putting, Reading, SetsContent, ShareNoSector, Stands, TurnGoesOn, actor_of, hold_of_call, range_in, ranges_of, shown_in, shown_of}
+pub use Rattle.core_turns.specs.UnderWay.{AreBeside, AreCallsOf, CommitStands, Copying, GroupsStand, HaveNoneInCommon, HoldingCall, HoldsCall, IsCallOfCore, LiesInPool, NoCommitStands, PutsSpare, Putting, Reading, SetsContent, ShareNoSector, Stands, TurnGoesOn, actor_of, hold_of_call, ranges_of, shown_in, shown_of}
 pub use Rattle.core_turns.specs.declared.attaching.AttachRun.{AttachRun}
 pub use Rattle.core_turns.specs.declared.attaching.AttachRun.TheVariants.{Checked, Joins, Reads, Signs}
 pub use Rattle.core_turns.specs.declared.copying.CopyRun.{CopyRun}

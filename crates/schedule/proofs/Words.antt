@@ -12,17 +12,17 @@ pub use Rattle.std.proofs.lemmas.List.Sums.{sum_by-append, sum_by-cons}
 pub use Rattle.std.proofs.lemmas.Option.{get_or_from_slice_get, slice_get-get_or, slice_get-map, slice_get_read, slice_get_within}
 pub use Rattle.std.proofs.lemmas.Result.{on_err_weaker, on_ok_weaker}
 pub use Rattle.std.specs.List.{AllZip}
-pub use Rattle.std.specs.Prelude.{All, Contains, Err, IsSome, IsTrue, Ok, OnErr, Result, count_by, filter, flat_map, get_or, is_some, map, nat_eq, nat_lt, not, option_and_then, option_map, replicate, slice_get, sum, take, true, unwrap_or, ⊤, ◌==◌, ◌||◌}
+pub use Rattle.std.specs.Prelude.{All, Contains, Err, IsSome, IsTrue, Ok, OnErr, Result, count_by, filter, flat_map, get_or, is_some, map, nat_eq, nat_lt, not, option_and_then, option_map, replicate, slice_get, sum, take, true, unwrap_or, ⊤, ◌==◌}
 pub use Rattle.std.specs.Set.{is_member, unique_keys}
 pub use Rattle.bank_trait.proofs.Moments.{later_refl, later_trans}
-pub use Rattle.bank_trait.proofs.Touches.{touches_none, touches_then, touches_widen}
+pub use Rattle.bank_trait.proofs.Touches.{touches_then, touches_widen}
 pub use Rattle.bank_trait.specs.Causes.{FaultCounted}
 pub use Rattle.bank_trait.specs.Disk.{Disk, Image, Later, Lawful, Unchanged}
 pub use Rattle.bank_trait.specs.Regions.{TouchesOnly}
 pub use Rattle.bank_trait.specs.declared.Failed.{Failed}
 pub use Rattle.width_map.specs.Births.{IsGrowing, NoneAbove, births_after, first_width}
 pub use Rattle.width_map.specs.declared.birth.Birth.{Birth}
-pub use Rattle.row_layout.specs.Layout.{Layout, allocated_of, rows_of}
+pub use Rattle.row_layout.specs.Layout.{allocated_of, rows_of}
 pub use Rattle.reflow_mark.specs.Reflow.{Expands, sectors_of}
 pub use Rattle.reflow_mark.specs.declared.reflow.Reflow.{Reflow}
 pub use Rattle.range_locks.specs.Holds.{EndsHold, IsBusyBy}
@@ -33,7 +33,7 @@ pub use Rattle.range_locks.specs.declared.hold.HoldKind.TheVariants.{Exclusive, 
 pub use Rattle.block_record.specs.declared.entry.IndexEntry.{IndexEntry}
 pub use Rattle.space_alloc.specs.Space.{Gains, HasNoFreeRun, HeldRun, Run, Space, after_group}
 pub use Rattle.block_table.proofs.Counts.{held_is, known_split}
-pub use Rattle.block_table.specs.Table.{IsFull, IsTable, entry_of, ids_of, known_ids}
+pub use Rattle.block_table.specs.Table.{IsFull, IsTable, ids_of, known_ids}
 pub use Rattle.uberblock_ring.proofs.DeviceSets.{count_none, none_in}
 pub use Rattle.uberblock_ring.specs.Devices.{IsWithin, count_of, has_device}
 pub use Rattle.uberblock_ring.specs.Uberblock.{Uber, max_group}
@@ -51,7 +51,7 @@ pub use Rattle.core_state.specs.Committing.{Point, point_of}
 pub use Rattle.core_state.specs.Journal.{Asked, Calls, CallsAreRight, Follows, GroupsAreRight, IsAsked, IsAttachOf, IsComplete, IsWidthStep}
 pub use Rattle.core_state.specs.JournalRoom.{Journal}
 pub use Rattle.core_state.specs.Keeps.{HaveParity, Kept, Setting}
-pub use Rattle.core_state.specs.Legal.{CallAt, GroupAt, IsAnswerOf, IsAnsweredGroup, IsCutShort, IsGroupBefore, IsPrevious, IsReadOf, IsRightAttach, IsRightCall, IsRightCopy, IsRightFree, IsRightRead, IsRightSync}
+pub use Rattle.core_state.specs.Legal.{CallAt, GroupAt, IsAnswerOf, IsAnsweredGroup, IsGroupBefore, IsPrevious, IsReadOf, IsRightAttach, IsRightCall, IsRightCopy, IsRightFree, IsRightRead}
 pub use Rattle.core_state.specs.Map.{Map, PutBytes, SameMap, map_after, map_after_answer, map_of, with_block}
 pub use Rattle.core_state.specs.Moment.{AwaitsAttach, Groups, IsBegunAfter, IsGroupOf, IsRowOf, KeepsSince, KeepsThroughout, groups_in, item_of}
 pub use Rattle.core_state.specs.Shown.{Shape, Shows}
@@ -61,15 +61,14 @@ pub use Rattle.core_state.specs.declared.answer.Kind.{Kind}
 pub use Rattle.core_state.specs.declared.item.Entry.{Entry}
 pub use Rattle.core_state.specs.declared.item.Item.{Item}
 pub use Rattle.core_state.specs.declared.item.Item.TheVariants.{Call, Group}
-pub use Rattle.mark_choice.specs.CommitChoice.{IsWiderByOne, births_of_commit}
+pub use Rattle.mark_choice.specs.CommitChoice.{births_of_commit}
 pub use Rattle.mark_advance.specs.Behind.{KeepsOrEnds}
 pub use Rattle.core_commit.proofs.Beside.{committing_knows}
 pub use Rattle.core_commit.proofs.Going.{in_use_before}
 pub use Rattle.core_commit.proofs.Stepping.{ready_keeps, steps_same}
-pub use Rattle.core_commit.specs.CommitTurns.{CommitRun, HasCalled, IsMadeReady}
+pub use Rattle.core_commit.specs.CommitTurns.{CommitRun, HasCalled}
 pub use Rattle.core_commit.specs.Spared.{IsOnInUse}
 pub use Rattle.core_commit.specs.Widening.{IsWidenable, widened_kept}
-pub use Rattle.core_commit.specs.declared.commit_run.CommitStep.TheVariants.{Called}
 pub use Rattle.core_commit.specs.declared.commit_run.Stage.{Stage}
 pub use Rattle.core_commit.specs.declared.commit_run.Stage.TheVariants.{Lays}
 pub use Rattle.join_commit.specs.JoinRun.{JoinRun}
@@ -84,8 +83,8 @@ pub use Rattle.core_blocks.specs.Blocks.{AreUnderWay, Blocks, IsUnderWay, put_ru
 pub use Rattle.core_blocks.specs.Growing.{grown_by}
 pub use Rattle.core_blocks.specs.Puts.{HoldsBack, sectors_taken}
 pub use Rattle.core_blocks.specs.Runs.{held_sectors}
-pub use Rattle.core_blocks.specs.Usage.{IsTight, UsesAtMost, runs_in_use, sectors_in, size_at}
-pub use Rattle.core_client.proofs.Outs.{outs_none, outs_then}
+pub use Rattle.core_blocks.specs.Usage.{IsTight, UsesAtMost, sectors_in}
+pub use Rattle.core_client.proofs.Outs.{outs_then}
 pub use Rattle.core_client.specs.Outs.{OnlyFailedGoOut}
 pub use Rattle.core_open.proofs.Ends.{present_held}
 pub use Rattle.core_open.proofs.Joining.{since_longer}
@@ -119,7 +118,7 @@ pub use Rattle.core_turns.proofs.FreeStands.{frees_calls, frees_stands}
 pub use Rattle.core_turns.proofs.GetCalls.{get_begins_calls, get_ends_calls, get_reads_calls, get_solves_calls}
 pub use Rattle.core_turns.proofs.GetLaws.{get_finds, get_tells}
 pub use Rattle.core_turns.proofs.GetStands.{get_begins_stands, get_ends_stands, get_reads_stands, get_solves_stands}
-pub use Rattle.core_turns.proofs.GetTurns.{get_shared, reads_reaching, solved_of}
+pub use Rattle.core_turns.proofs.GetTurns.{get_shared, reads_reaching}
 pub use Rattle.core_turns.proofs.Holds.{KeepsAlone, below_all, count_ended, count_gained, keeps_ended, keeps_gained, keeps_same, none_below, one_if}
 pub use Rattle.core_turns.proofs.JobCalls.{job_begins_calls, job_drops_calls, job_steps_calls}
 pub use Rattle.core_turns.proofs.JobEnds.{job_ends_calls, job_ends_commit, job_ends_stands}
@@ -132,12 +131,12 @@ pub use Rattle.core_turns.proofs.PutWrites.{put_writes_since, put_writes_stands}
 pub use Rattle.core_turns.proofs.StandFrames.{LeavesCommit, commit_still, out_leaves, since_read}
 pub use Rattle.core_turns.proofs.WritesBeside.{shown_one}
 pub use Rattle.core_turns.specs.Attaching.{AttachGoesOn, BeginsAttach, BeginsAttachSo, BeginsJoining, EndsAttach, FindsFree, GoOutAndReach, HasNewDevice, HoldsAttach, IsAttachRefused, IsAttachRunOf, IsDeviceRefused, IsMadeAt, IsMoreAttach, IsTooMany, OnlyGoOut, ReadsNext, StepsAttach, StepsJoin, StopsAttach, WaitsForCommit, attach_answer, attach_commit}
-pub use Rattle.core_turns.specs.Committing.{AnswersGroup, BeginsCommit, BeginsCommitSo, DropsHold, IsCommitOf, IsSyncRefused, StepsCommit, TakesHold, hold_for}
+pub use Rattle.core_turns.specs.Committing.{AnswersGroup, BeginsCommit, BeginsCommitSo, DropsHold, IsCommitOf, IsSyncRefused, StepsCommit, TakesHold}
 pub use Rattle.core_turns.specs.Copying.{BeginsJobSo, DropsJob, EndsJob, IsJobOf, IsJobRefused}
 pub use Rattle.core_turns.specs.Core.{Core, CoreState, HasBankOf, IsCore, as_begun, at_disk, pool_at}
 pub use Rattle.core_turns.specs.Freeing.{FreesBlock, map_after_free}
-pub use Rattle.core_turns.specs.Getting.{AnswersSolved, BeginsGet, EndsGet, HasTooManyOut, IsGetOf, IsGetRefused, IsReadKind, IsReadRight, ReadsTurn, SolvesGet, answer_of, hold_of}
-pub use Rattle.core_turns.specs.Putting.{BeginsPutSo, BeginsPutTurn, EndsPut, FillsPut, GivesUp, GivesUpTurn, IsFillable, IsPutOf, IsPutRefused, IsStoppedPut, LeavesBlocks, StoresBlock, WritesOne, WritesTurn, left_to_fill, to_fill_of}
+pub use Rattle.core_turns.specs.Getting.{AnswersSolved, BeginsGet, EndsGet, HasTooManyOut, IsGetOf, IsGetRefused, IsReadKind, IsReadRight, ReadsTurn, SolvesGet, hold_of}
+pub use Rattle.core_turns.specs.Putting.{BeginsPutSo, BeginsPutTurn, EndsPut, FillsPut, GivesUp, GivesUpTurn, IsFillable, IsPutOf, IsPutRefused, IsStoppedPut, LeavesBlocks, StoresBlock, left_to_fill, to_fill_of}
 pub use Rattle.core_turns.specs.Rounds.{BeginsRound, IsMoreRound, IsRoundBusy, IsRoundOf, IsRoundRefused, StepsCopy}
 pub use Rattle.core_turns.specs.Steps.{turn_with}
 pub use Rattle.core_turns.specs.UnderWay.{AreCallsOf, Copying, GroupsStand, HoldingCall, Putting, Reading, SetsContent, Stands, TurnGoesOn, actor_of, ranges_of, shown_in, shown_of}
@@ -151,7 +150,6 @@ pub use Rattle.core_turns.specs.declared.putting.PutRun.{PutRun}
 pub use Rattle.core_turns.specs.declared.rounds.CopyRound.{CopyRound}
 pub use Rattle.core_turns.specs.declared.rounds.CopyRound.TheVariants.{Commits, Copies, Rests}
 pub use Rattle.core_turns.specs.declared.solving.Solved.{Solved}
-pub use Rattle.core_turns.specs.declared.solving.Solved.TheVariants.{Bytes, Damaged, NotYet}
 pub use Rattle.core_turns.specs.declared.turn.Turn.{Turn}
 pub use Rattle.core_turns.specs.declared.turn.Turn.TheVariants.{Busy, Done, More}
 pub use Rattle.client_script.specs.InOrder.{IsNextCall, given_of}
@@ -164,33 +162,32 @@ pub use Rattle.journal_law.proofs.GrownAnswers.{answers_alone, answers_grown_cal
 pub use Rattle.journal_law.proofs.GrownGroups.{after_listed, group_alone, group_of_grown, groups_grown_call, groups_grown_group, latest_alone, latest_grown_call, latest_grown_group, width_step_where}
 pub use Rattle.journal_law.proofs.GrownRun.{awaits_grown, groups_begun, groups_call, groups_cut, groups_end, groups_one}
 pub use Rattle.journal_law.proofs.ManyIds.{call_puts, held_or_put, one_too_many}
-pub use Rattle.journal_law.proofs.Moments.{contains_one, moved}
+pub use Rattle.journal_law.proofs.Moments.{contains_one}
 pub use Rattle.journal_law.proofs.NoSpace.{births_told_call, births_told_group, has_ended_call, has_ended_group, largest, no_space_alike, no_space_alone, no_space_call, no_space_group, taken_later, width_told_call, width_told_group}
 pub use Rattle.journal_law.proofs.Parity.{opened_parity, parity_opened, parity_with}
 pub use Rattle.journal_law.proofs.Rows.{row_among}
 pub use Rattle.journal_law.specs.Caused.{HasTooManyIds, IsHeldOrPut}
 pub use Rattle.journal_law.specs.FirstGroup.{BeginsAfter}
 pub use Rattle.journal_law.specs.Moments.{KeepsLast, KeepsUntil}
-pub use Rattle.journal_law.specs.NoSpace.{FindsNoSpace, IsBornBehind, NoSpaceIsCaused, births_told, has_ended, largest_size, length_put, width_told}
+pub use Rattle.journal_law.specs.NoSpace.{FindsNoSpace, IsBornBehind, NoSpaceIsCaused, has_ended, largest_size, length_put}
 pub use Rattle.journal_law.specs.Parity.{HaveParityOf}
 pub use Rattle.journal_law.specs.Points.{point_after, read_point}
-pub use Rattle.schedule.specs.Ahead.{IsAskedBy}
 pub use Rattle.schedule.specs.Caused.{AnswersAreCaused, FullIsCaused, IsAnswerCause}
 pub use Rattle.schedule.specs.Clients.{Changes, ClientsAreAnswered, answered_of}
 pub use Rattle.schedule.specs.Comes.{Comes, TakesTurn}
 pub use Rattle.schedule.specs.Coming.{AttachesNone, GoesOnFor, IsSchedule, IsWorldOf, KeepsUsing, LeadTo, StaysAsWide}
 pub use Rattle.schedule.specs.Dropping.{HasDropCause, IsDropCause, IsToBeTold, WillTell}
 pub use Rattle.schedule.specs.Fitting.{FitsCall, FitsSince, IsDeviceCause, IsGroupKind}
-pub use Rattle.schedule.specs.InTurn.{Cursor, Goes, HasGone, HaveTaken, InOrder, InRest, InRound, IsCallOfScript, IsStepOf, IsTurnOf, Replay, ReplaySteps, after_round, cursor_after, has_left, has_left_at, is_any_busy, is_busy_at, is_under_way, replay_at, replay_by, turn_at, turns_by}
+pub use Rattle.schedule.specs.InTurn.{Cursor, Goes, HasGone, HaveTaken, InOrder, InRest, InRound, IsCallOfScript, IsStepOf, IsTurnOf, Replay, ReplaySteps, after_round, cursor_after, has_left_at, is_any_busy, is_busy_at, replay_at, replay_by, turn_at, turns_by}
 pub use Rattle.schedule.specs.Live.{replay_in, turns_in}
 pub use Rattle.schedule.specs.Moments.{KeepsOn, KeepsTurnByTurn, KeptSoFar, Past}
 pub use Rattle.schedule.specs.Numbered.{GroupsAreNumbered, IsNumbered}
 pub use Rattle.schedule.specs.OfLines.{FollowsLines, callers_in}
-pub use Rattle.schedule.specs.Playing.{AreCopiers, AreSharers, CarriesOut, EndsAs, HasPlayed, HasRoomForAnswers, HasRunOutOfTurns, HaveHadTurns, IsReady, MakesRoom, UsesRoom, all_owed, calls_by, owed, sharing_in, sharing_of, sharing_under, taken_for, taken_of, taken_under}
+pub use Rattle.schedule.specs.Playing.{AreCopiers, AreSharers, CarriesOut, EndsAs, HasPlayed, HasRoomForAnswers, HasRunOutOfTurns, HaveHadTurns, IsReady, MakesRoom, UsesRoom, all_owed, calls_by, owed, sharing_in, sharing_of, sharing_under, taken_for, taken_of}
 pub use Rattle.schedule.specs.Recorded.{AllBelow, IsBegunAt, IsRightNext, Recorded}
 pub use Rattle.schedule.specs.Replaying.{AreIdle, BeginsOne, HasComeRound, HasTurn, HaveBegun, IsAtRest, TakesOne, blank_client, blank_clients}
 pub use Rattle.schedule.specs.Running.{AreGoing, HasBegun, HasBegunBy, HasBegunIn, HasContent, IsClient, IsGoing, IsHoldOf, IsTheirs, IsWorkFor, IsWorkOf, MakesCommit, Runs, call_of_client, calls_under_way, commit_in, held_by, held_under, setting_now}
-pub use Rattle.schedule.specs.Turned.{AnswersAtOnce, Began, BeginsCall, BeginsWork, EndsPutting, EndsReading, Frees, GoesOnBy, GoesOnPutting, GoesOnReading, HasDeviceFor, HasDeviceForTurn, HasDeviceUnder, HasTableOf, IsFilledIn, LacksRoom, LeavesBegun, LeavesGoing, MayGoOn, Nothing, PutGoesOn, ReadGoesOn, Station, Turned, Waits, Went, WorkGoesOn, WritesOn, attach_turn, copy_turn, entry_for, group_by, group_for, group_with, listed_for, listed_of, listed_on, listed_with, read_turn, station_of}
+pub use Rattle.schedule.specs.Turned.{AnswersAtOnce, Began, BeginsCall, BeginsWork, EndsPutting, EndsReading, Frees, GoesOnBy, GoesOnPutting, GoesOnReading, HasDeviceFor, HasDeviceUnder, HasTableOf, IsFilledIn, LacksRoom, LeavesBegun, LeavesGoing, MayGoOn, Nothing, PutGoesOn, ReadGoesOn, Station, Turned, Waits, Went, WorkGoesOn, WritesOn, attach_turn, copy_turn, entry_for, group_by, group_for, group_with, listed_for, listed_of, listed_on, listed_with, read_turn, station_of}
 pub use Rattle.schedule.specs.Turns.{AreListedWith, IsListedWith, TurnTaken, Turns, bank_when, last_left, most_turns, taken_by, turns_of}
 pub use Rattle.schedule.specs.Using.{AreAtMost, AreLeft, AreRunsOf, AreUsed, HasToldWidths, HasUsedRuns, IsHeldIn, IsOpenSince, calls_among, sizes_left, sizes_of, sizes_put}
 pub use Rattle.schedule.specs.WholeRun.{HasRun, HasRunInTurn, HasTakenTurns, RunKeeps, first_turns}
