@@ -6,8 +6,7 @@ use Rattle.core_turns.proofs.Holds.{shared_ended}
 -- A read begins.
 pub get_begins : {core : Core} {actor : ℕ} (id : ℕ) {asked : Kind} {entry : IndexEntry} {layout : Layout} {size : ℕ}
     {hold : Hold} {read : BlockRead} {holds : List Hold} → IsCore core → AreInStep core.pool.blocks
-    → (HasTooManyOut core → ⊥)
-    → entry_of core.pool.blocks.table.entries id ≡ Some entry
+    → (HasTooManyOut core → ⊥) → entry_of core.pool.blocks.table.entries id ≡ Some entry
     → layout ≡ layout_of core.pool.uber.parity core.pool.uber.births entry → size ≡ allocated_of layout
     → hold ≡ record { lo = entry.start; hi = entry.start + size; actor = actor; kind = Shared }
     → IsReadBegun layout read → Gains core.holds holds hold → IsClear core.holds entry.start (entry.start + size) Shared

@@ -101,8 +101,7 @@ module _ {before after : CoreState} {run next : CopyRun} (is : IsCore before.cor
 
   -- Blocks of the pool are off it,
   layout_off : {layout : Layout} → IsInPool layout reflow → IsOff places reflow done layout
-  layout_off pool content cell device device_sector cell_is place written =
-      search (off_target, inside, at_target)
+  layout_off pool content cell device device_sector cell_is place written = search (off_target, inside, at_target)
 
   table_off : AreOff places before.core
   table_off entry listed = layout_off (listed_in_pool (as_begun before.core) entry is.is is.step listed)

@@ -10,8 +10,7 @@ put_digest of is = search (sha256_is_digest, arith)
 
 -- The block of a put that ends stands in the table.
 pub put_stores : {core : Core} {run : PutRun} {filled : Filled} {entry : IndexEntry} {after : Blocks}
-    {holds : List Hold}
-    → IsPutOf core run → (HasTooManyOut core → ⊥) → run.filled ≡ Some filled
+    {holds : List Hold} → IsPutOf core run → (HasTooManyOut core → ⊥) → run.filled ≡ Some filled
     → entry ≡ filled_entry run filled → EndsHold core.holds holds run.hold
     → ChangesOnly core.pool.blocks.table.entries after.table.entries entry.id (Some entry)
     → after.table.reserved ≡ without_one entry.id core.pool.blocks.table.reserved

@@ -112,8 +112,7 @@ put_ends_alone old new run of ends = search (keeps_ended, put_shared, of)
 pub listed_clear : (core : Core) (range : PutRange) (entry : IndexEntry) → IsCore core
     → IsUnderWay core.pool.blocks range → IsListed core.pool.blocks.table.entries entry
     → AreClear (put_run range) (layout_run (layout_of core.pool.uber.parity core.pool.uber.births entry))
-listed_clear core range entry is under listed =
-    rw (is.is.parity, is.is.births) at (under.clear entry listed)
+listed_clear core range entry is under listed = rw (is.is.parity, is.is.births) at (under.clear entry listed)
 
 -- A put of which more is filled in or written has no more sectors of blocks.
 pub next_spares : {left calls nexts : List HoldingCall} {run : PutRun} (state : CoreState) (group : Kept)
@@ -122,8 +121,7 @@ pub next_spares : {left calls nexts : List HoldingCall} {run : PutRun} (state : 
     → PutsSpare state calls group → PutsSpare state nexts group
 next_spares {left} {calls} {nexts} {run} state group filled gains again spared one listed = ⊎_elim
     (λ (same : Putting (record run { filled = filled }) ≡ Putting one). rw (← same_put same)
-    (search (spared, gains_item)))
-    (search (spared, gains_old))
+    (search (spared, gains_item))) (search (spared, gains_old))
     (gains_cases left nexts (Putting (record run { filled = filled })) (Putting one) again listed)
 
 module _ {setting : Setting} {last : Kept} {begun : List Kept} {map : Map} {contents : ℕ → List ℕ}

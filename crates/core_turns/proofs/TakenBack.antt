@@ -33,6 +33,5 @@ module _ {T : Type 0} where
       → (other : T) → Contains new other → Contains old other
   was_there old mid new item gains loses other listed = ⊎_elim
       (λ (same : item ≡ other). subst (Contains old) same (rw gains.was
-      (twice item gains.before gains.after loses.before
-      loses.after (cc) (rw (loses.was, ← same) at listed))))
+      (twice item gains.before gains.after loses.before loses.after (cc) (rw (loses.was, ← same) at listed))))
       (λ there. there) (gains_cases old mid item other gains (gains_old new mid item other loses listed))

@@ -112,8 +112,7 @@ module _ {script : Script} {old new : List Client} {index : ℕ} {before client 
         (λ (not_less : answered before ≤ number).
         (length items, entry, last_there items (Call entry), cc, grind arith)) (cases_lt number (answered before)))
         (λ (apart : caller ≢ index).
-        answers_more number (are.every caller number its (search (changes.others, arith)) low))
-        (cases_eq caller index)
+        answers_more number (are.every caller number its (search (changes.others, arith)) low)) (cases_eq caller index)
 
     -- With that entry the journal answers one call more.
     pub answers_call : ClientsAreAnswered script new (items ++ Call entry ∷ [])

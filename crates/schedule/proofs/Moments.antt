@@ -32,8 +32,7 @@ module _ {setting : Setting} {calls : Calls} {handed : PutBytes} {opening : Map}
   on_goes {onward} {from} {now} {next} on later keeps = search (later_trans, arith)
 
   -- What is certain now the bank keeps, in a pool that reaches so far, and each image from now on.
-  pub on_now : {known : List Kept} {now : Disk} {reach : ℕ}
-      → AreLatest calls handed opening known items item last begun
+  pub on_now : {known : List Kept} {now : Disk} {reach : ℕ} → AreLatest calls handed opening known items item last begun
       → Knows (record setting { reach = reach }) last begun now
       → KeepsOn setting calls handed opening items item last begun now now
   on_now {now = now} {reach = reach} are knows = record {

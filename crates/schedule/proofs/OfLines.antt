@@ -193,8 +193,7 @@ module _ {script : Script} (before after : Station) (goes : GoesAlone script bef
       by None none = goes_on_from goes.follows (cc) has.1 goes.few (search (went_at_end, arith)) is still
       by (Some number) made =
           goes_on_from (follows_group goes.follows (group_for after.state.core began number)
-          (search (made_at_end, arith)))
-          (sym (answered_by going)) has.1 goes.few (search made_rests) is still
+          (search (made_at_end, arith))) (sym (answered_by going)) has.1 goes.few (search made_rests) is still
   goes_further (Busy by) call under going is did leaves = absurd leaves
   goes_further (Done answer) call under going is did leaves = elim
       (ends_right before.state after.state call under.work did

@@ -72,8 +72,7 @@ module _ {world : World} {past : Past} {items : List Item} {item : GroupItem} {l
   -- An item is listed, just now, and the journal's groups stand in a row as before.
   recorded_on : (middle : List Item) (new : Item) (earlier : List Kept) {group : GroupItem} {next : Kept}
       {onward : List Kept} {reach : ℕ} (groups : Groups world.calls world.handed world.opening world.known
-      (middle ++ new ∷ []))
-      → groups.answered ≡ earlier ++ next ∷ [] → groups.begun ≡ onward
+      (middle ++ new ∷ [])) → groups.answered ≡ earlier ++ next ∷ [] → groups.begun ≡ onward
       → world.known ++ so_far.groups.answered ++ so_far.groups.begun ≡ world.known ++ groups.answered ++ groups.begun
       → AreLatest world.calls world.handed world.opening world.known (middle ++ new ∷ []) group next onward
       → GroupsAreRight (middle ++ new ∷ []) → AnswersAreRight world.handed world.opening (middle ++ new ∷ [])

@@ -63,8 +63,7 @@ refused_cause devices dropped core given refused known = grind (arith, known)
 pub device_cause : (devices : ℕ) (dropped : WhyDropped → Type 0) (before : CoreState) (ring : RingRead)
     (after : CoreState) (given : Answer) → IsDeviceRefused before ring after given
     → ((device : ℕ) → FaultCounted (before.disk.faults device) (after.disk.faults device)
-    → dropped (why.NewDeviceFailed device))
-    → IsDeviceCause devices dropped given
+    → dropped (why.NewDeviceFailed device)) → IsDeviceCause devices dropped given
 device_cause devices dropped before ring after given refused known = grind (arith, known)
 
 -- and as it is begun, which tells of none.

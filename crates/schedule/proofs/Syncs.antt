@@ -50,8 +50,7 @@ pub refused_map : (handed : PutBytes) {map : Map} (entry : Entry) (core : Core) 
 refused_map handed {map = map} entry core given refused = grind arith
 
 -- answers any call,
-pub refused_answers : (asked : Kind) (core : Core) (given : Answer) → IsSyncRefused core given
-    → IsAnswerOf asked given
+pub refused_answers : (asked : Kind) (core : Core) (given : Answer) → IsSyncRefused core given → IsAnswerOf asked given
 refused_answers asked core given refused = grind arith
 
 -- and is right where the last group listed is the last one begun, if none is under way.

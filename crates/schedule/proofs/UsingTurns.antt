@@ -164,8 +164,7 @@ module _ {old new : Core} where
   -- and one by which a job begins, which does too.
   pub job_goes : (run : CopyRun) {actor : ℕ} → BeginsJobSo old new actor run
       → GoesAs old new [] None None (Some run) 0 0
-  job_goes run begins =
-      goes_as (cc) (cc) (frees_none (cc)) (shares_alone (cc) begins.holds) (omega arith)
+  job_goes run begins = goes_as (cc) (cc) (frees_none (cc)) (shares_alone (cc) begins.holds) (omega arith)
 
 -- ---- first turns
 

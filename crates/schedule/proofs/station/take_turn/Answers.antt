@@ -38,8 +38,7 @@ go_further-given-requires-clause-may g c =
     c.requires.may c.in-Some.under_way c.index-calls-number.result c.in-Some.is is
 
 pub go_further-given-requires-clause-there : goal.go_further-given-requires-clause-there
-go_further-given-requires-clause-there g c =
-    rw c.in-Some.is at c.requires.there
+go_further-given-requires-clause-there g c = rw c.in-Some.is at c.requires.there
 
 pub begin_next-requires-clause-room : goal.begin_next-requires-clause-room
 begin_next-requires-clause-room g c = room_to_begin (length c.args.calls.now) c.args.journal.now.room c.args.client.now

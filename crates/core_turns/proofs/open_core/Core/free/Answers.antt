@@ -8,8 +8,7 @@ returns-clause-holds c = λ map disk holds.
     let pool = pool_of c.self.inside.uber c.self.inside.blocks c.self.inside.out c.self.inside.done in
     let old : HoldsMap map (state_of pool disk) = rw (← c.self.view_is) at holds in
     elim c.match-remove.branch [
-      | in-Some w ↦ rw w.result-is
-          (freed_holds map pool c.remove.new.self disk c.args.id c.remove.ensures.change old)
+      | in-Some w ↦ rw w.result-is (freed_holds map pool c.remove.new.self disk c.args.id c.remove.ensures.change old)
       | in-None w ↦ rw w.result-is (none_freed_holds map pool c.remove.new.self disk c.args.id c.remove.ensures.change
           (sym c.remove.ensures.was ∙ w.in-None.is) old)
     ]

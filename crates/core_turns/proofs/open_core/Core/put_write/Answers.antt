@@ -5,8 +5,7 @@ use Rattle.core_turns.proofs.open_core.Core.put_write.Goals as goal
 
 pub returns-clause-of : goal.returns-clause-of
 returns-clause-of g c = put_more _ _ (turn_with c.write_put.new.run c.write_put.result) c.requires.of
-    c.requires.under_way
-    c.write_put.ensures.writes
+    c.requires.under_way c.write_put.ensures.writes
 
 pub returns-clause-goes_on : goal.returns-clause-goes_on
 returns-clause-goes_on g c = put_goes_on (turn_with c.write_put.new.run c.write_put.result) c.write_put.ensures.is

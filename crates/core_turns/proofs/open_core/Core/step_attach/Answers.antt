@@ -11,8 +11,7 @@ returns-then-has_too_many_out-clause-steps g c =
     (ap (λ (core : Core). core.pool.out) c.stop_attach.view_is))
 
 pub returns-in-Checked-clause-steps : goal.returns-in-Checked-clause-steps
-returns-in-Checked-clause-steps g c =
-    rw c.in-Checked.is (c.begin_joining.ensures.steps (g.B.Bank.disk c.args.bank.now))
+returns-in-Checked-clause-steps g c = rw c.in-Checked.is (c.begin_joining.ensures.steps (g.B.Bank.disk c.args.bank.now))
 
 pub returns-in-Checked-clause-of : goal.returns-in-Checked-clause-of
 returns-in-Checked-clause-of g c = c.begin_joining.ensures.of (g.B.Bank.disk c.args.bank.now)
