@@ -49,8 +49,8 @@ module _ {items : List Item} {answered : ℕ} (follows : Follows items answered)
 
 -- ---- what stands between two turns
 
--- Nothing was listed since a call under way began, unless it is a copy that may have made groups since; nor was anything
--- since the commit began that a copy has under way.
+-- Nothing was listed since a call under way began, unless it is a copy that may have made groups since; nor was
+-- anything since the commit began that a copy has under way.
 abbrev AtEndOf : Work → ℕ → ℕ → Type 0
 AtEndOf (work.Copy (Rests actor made)) at now = ⊤
 AtEndOf (work.Copy (Copies run)) at now = ⊤
@@ -61,7 +61,8 @@ abbrev IsCopyFor : Kind → Work → Type 0
 IsCopyFor asked (work.Copy round) = asked ≡ kind.Copy
 IsCopyFor asked other = ⊤
 
--- The client has answered the calls that it has begun, but for one under way, which began when all items had been listed.
+-- The client has answered the calls that it has begun, but for one under way, which began when all items had been
+-- listed.
 record GoesAlone (script : Script) (items : List Item) (client : Client) : Type 0 where
   follows : Follows items (answered_of client.begun client.under_way)
   few : client.begun ≤ length (calls_of script 0)

@@ -45,8 +45,8 @@ returns-then-place-len g c =
       ready = turn_ready clients takes c.requires.allowed
           c.requires.ready.copying c.requires.ready.sharing turned c.requires.ready.counted
           (length-set clients c.from-place.result c.take_turn.new.client)
-          (room_after clients client c.take_turn.new.client c.from-place.ensures c.requires.ready.enough there (taken_few
-          (c.requires.ready.schedule.answered.few c.args.actor client there)
+          (room_after clients client c.take_turn.new.client c.from-place.ensures c.requires.ready.enough there
+          (taken_few (c.requires.ready.schedule.answered.few c.args.actor client there)
           (λ under going. c.requires.ready.schedule.answered.some c.args.actor client under there going))
           (turn_few clients takes c.requires.allowed c.requires.ready.copying c.requires.ready.sharing turned)
           c.take_turn.ensures.room);

@@ -47,8 +47,9 @@ begin_next-requires-clause-room g c = room_to_begin (length c.args.calls.now) c.
 pub list_made-requires : goal.list_made-requires
 list_made-requires g c =
     let going = c.in-Some.is in record {
-      room = rw c.made.ensures (room_to_go (length c.args.calls.now) c.args.journal.now.room c.go_further-given.new.journal.room
-          c.args.client.now c.in-Some.under_way going (c.requires.begun c.in-Some.under_way going)
+      room = rw c.made.ensures (room_to_go (length c.args.calls.now) c.args.journal.now.room
+          c.go_further-given.new.journal.room c.args.client.now c.in-Some.under_way going
+          (c.requires.begun c.in-Some.under_way going)
           c.go_further-given.new.work c.requires.few c.requires.room c.in-None-given.ensures.room);
     }
 
@@ -58,7 +59,8 @@ list_answer-requires g c =
       room = rw (listed_room
           c.index-calls-number.result c.in-Some.under_way.at c.entry_for-entry.ensures c.group-made.ensures)
           (room_to_end (length c.args.calls.now) c.args.journal.now.room c.go_further-given.new.journal.room
-          c.args.client.now c.in-Some.under_way going (c.requires.begun c.in-Some.under_way going)
+          c.args.client.now c.in-Some.under_way going
+          (c.requires.begun c.in-Some.under_way going)
           c.in-Some-given.answer c.requires.few c.requires.room c.in-Some-given.ensures.room);
     }
 
@@ -66,15 +68,17 @@ pub returns-in-None-given-clause-room : goal.returns-in-None-given-clause-room
 returns-in-None-given-clause-room g c =
     let going = c.in-Some.is in
     going_uses (length c.args.calls.now) c.args.journal.now.room c.go_further-given.new.journal.room c.args.client.now
-    c.in-Some.under_way going (c.requires.begun c.in-Some.under_way going) c.list_made.new.journal.room
+    c.in-Some.under_way going
+    (c.requires.begun c.in-Some.under_way going) c.list_made.new.journal.room
     c.begun_at-at.result c.go_further-given.new.work c.in-None-given.ensures.room
     (rw c.made.ensures at c.list_made.ensures.room)
 
 pub returns-in-Some-given-clause-room : goal.returns-in-Some-given-clause-room
 returns-in-Some-given-clause-room g c =
     let going = c.in-Some.is in
-    rw c.end_call.ensures (ended_uses (length c.args.calls.now) c.args.journal.now.room c.go_further-given.new.journal.room c.args.client.now
-    c.in-Some.under_way going (c.requires.begun c.in-Some.under_way going) c.list_answer.new.journal.room
+    rw c.end_call.ensures (ended_uses (length c.args.calls.now) c.args.journal.now.room
+    c.go_further-given.new.journal.room c.args.client.now c.in-Some.under_way going
+    (c.requires.begun c.in-Some.under_way going) c.list_answer.new.journal.room
     c.in-Some-given.answer refl c.in-Some-given.ensures.room
     (rw (listed_room c.index-calls-number.result c.in-Some.under_way.at
     c.entry_for-entry.ensures c.group-made.ensures) at c.list_answer.ensures.room))
