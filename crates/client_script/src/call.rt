@@ -5,6 +5,9 @@ ghost use Rattle.client_script.specs.Lines.{fill_bytes, pattern_from};
 use core_state::{Bytes, Kind};
 use std::alloc::{AllocError, Global};
 
+/// Most bytes of a put.
+pub const MOST_BYTES: u64 = 65_536;
+
 /// The bytes of a put: a pattern of so many bytes, or the bytes themselves.
 #[derive(Drop)]
 pub enum Fill {

@@ -3,11 +3,9 @@ ghost use Rattle.std.specs.Prelude.{◌≡◌, ◌≢◌, ◌++◌, ◌∷◌, �
 ghost use Rattle.client_script.specs.Words.{IsNumber, IsPattern, IsHexWords, HasNoCall};
 ghost use Rattle.client_script.specs.Faults.{IsIdName, IsPutName, IsBareName, IsCallFault};
 
+use crate::call::MOST_BYTES;
 use crate::cut::cut;
 use crate::number::number;
-
-/// Most bytes of a put.
-const MOST_BYTES: u64 = 65_536;
 
 /// What is wrong behind the letter of a call.
 #[derive(Clone, Copy, Debug, PartialEq, Eq)]

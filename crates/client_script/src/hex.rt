@@ -3,18 +3,16 @@ ghost use Rattle.std.specs.Prelude.{◌≡◌, ◌≢◌, ◌*◌, ◌/◌, ◌%
 ghost use Rattle.client_script.specs.Lines.{hex_digit, hex_text};
 ghost use Rattle.client_script.specs.Words.{IsHex};
 
+use crate::call::MOST_BYTES;
 use crate::hex_lanes::spell_lanes;
 use std::alloc::{AllocError, Global};
-
-/// Most bytes of a put.
-const MOST_BYTES: usize = 65_536;
 
 /// The bytes that a text spells: one at least, and not too many.
 pub fn hex_bytes(alloc: Global, text: &[u8]) -> Result<Option<Vec<u8>>, AllocError>
     ensures { IfOk result (λ found. MatchOption found
         ((bytes : List ℕ) → IsHex text.now bytes → ⊥) (λ bytes. IsHex text.now bytes.items)) }
 {
-    if text.is_empty() || text.len() % 2 == 1 || text.len() > 2 * MOST_BYTES {
+    if text.is_empty() || text.len() % 2 == 1 || text.len() as u64 > 2 * MOST_BYTES {
         return Ok(None);
     }
     let mut bytes = Vec::with_capacity(alloc, text.len() / 2)?;

@@ -17,7 +17,7 @@ use crate::script::Script;
 use std::alloc::Global;
 
 /// Most bytes of a script.
-pub const MOST_BYTES: usize = 16_777_216;
+pub const MOST_SCRIPT_BYTES: usize = 16_777_216;
 
 /// Most clients of a script.
 const MOST_CLIENTS: u8 = 8;
@@ -54,9 +54,9 @@ fn read_all(alloc: Global, bytes: &[u8]) -> Result<Script, ParseRefused>
     ensures ok { IfOk result (IsScript bytes.now) }
     ensures err { IfErr result (IsRefusedFor bytes.now) }
 {
-    if bytes.len() > MOST_BYTES {
+    if bytes.len() > MOST_SCRIPT_BYTES {
         return Err(ParseRefused::Limit {
-            reached: MOST_BYTES as u64 + 1,
+            reached: MOST_SCRIPT_BYTES as u64 + 1,
         });
     }
     let mut script = None;

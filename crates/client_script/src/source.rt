@@ -4,7 +4,7 @@ ghost use Rattle.client_script.specs.declared.refused.ReadRefused.TheVariants.{L
 ghost use Rattle.client_script.specs.Script.{Script as Asked, IsAllowed, IsScript, IsFaultAt, IsOverLimit, reached_by};
 ghost use Rattle.client_script.specs.FromSource.{IsToldWell, IsUnreadFor, IsNotReadFor, IsReadUnlessNoMemory, IsReadFaultUnlessNoMemory};
 
-use crate::reading::{MOST_BYTES, parse};
+use crate::reading::{MOST_SCRIPT_BYTES, parse};
 use crate::refused::ReadRefused;
 use crate::script::Script;
 use bank_trait::Source;
@@ -69,7 +69,7 @@ fn read_bytes<S: Source>(alloc: Global, source: &mut S) -> Result<Vec<u8>, ReadR
 {
     let mut bytes = Vec::new(alloc);
     let mut block = [0; BLOCK];
-    while bytes.len() <= MOST_BYTES {
+    while bytes.len() <= MOST_SCRIPT_BYTES {
         let len = source.read(&mut block)?;
         if len == 0 {
             return Ok(bytes);
@@ -77,6 +77,6 @@ fn read_bytes<S: Source>(alloc: Global, source: &mut S) -> Result<Vec<u8>, ReadR
         bytes.extend_from_slice(&block[..len])?;
     }
     Err(ReadRefused::Limit {
-        reached: MOST_BYTES as u64 + 1,
+        reached: MOST_SCRIPT_BYTES as u64 + 1,
     })
 }

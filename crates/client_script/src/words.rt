@@ -5,15 +5,12 @@ ghost use Rattle.core_state.specs.declared.answer.Kind.TheVariants.{Put};
 ghost use Rattle.client_script.specs.declared.call.Fill.TheVariants.{Nothing, Pattern, Hex};
 ghost use Rattle.client_script.specs.Words.{IsNumber, IsPattern, IsHexWords, IsWords, HasNoCall, IsBareWord};
 
-use crate::call::{Fill, ScriptCall};
+use crate::call::{Fill, MOST_BYTES, ScriptCall};
 use crate::cut::after;
 use crate::hex::hex_bytes;
 use crate::number::{leading_number, number};
 use core_state::{Bytes, Kind};
 use std::alloc::{AllocError, Global};
-
-/// Most bytes of a put.
-const MOST_BYTES: u64 = 65_536;
 
 /// The call that the words ask for; `line` is the number of their line.
 pub fn read_words(alloc: Global, line: u64, words: &[u8]) -> Result<Option<ScriptCall>, AllocError>

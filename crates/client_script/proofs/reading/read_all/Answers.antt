@@ -17,14 +17,14 @@ loop-rest-preserved c = record {
 pub returns-in_err-take_line-clause-err : goal.returns-in_err-take_line-clause-err
 returns-in_err-take_line-clause-err c =
     let p = err_from_is_err_and c.from_residual.result c.from_residual.ensures.1 in
-    rw (p.1, p.2) (refused_step _ _ c.first_line.result.1.now _ _ _ _ c.in_err-take_line.field-0.0 c.if-bytes-gt-MOST_BYTES.false c.loop-rest.invariant.so_far c.first_line.ensures.split c.in_err-take_line.ensures)
+    rw (p.1, p.2) (refused_step _ _ c.first_line.result.1.now _ _ _ _ c.in_err-take_line.field-0.0 c.if-bytes-gt-MOST_SCRIPT_BYTES.false c.loop-rest.invariant.so_far c.first_line.ensures.split c.in_err-take_line.ensures)
 
 pub returns-in-Some-clause-ok : goal.returns-in-Some-clause-ok
 returns-in-Some-clause-ok c =
     let none : length c.loop-rest.rest.now ≡ 0 = grind (arith, nat_tests, c.is_empty.ensures, c.loop-rest-test.false) in
-    script_read _ _ _ c.if-bytes-gt-MOST_BYTES.false (read_all _ _ _ _ _ c.loop-rest.invariant.so_far (nil_from_length c.loop-rest.rest.now none) c.in-Some.is)
+    script_read _ _ _ c.if-bytes-gt-MOST_SCRIPT_BYTES.false (read_all _ _ _ _ _ c.loop-rest.invariant.so_far (nil_from_length c.loop-rest.rest.now none) c.in-Some.is)
 
 pub returns-in-None-clause-err : goal.returns-in-None-clause-err
 returns-in-None-clause-err c =
     let none : length c.loop-rest.rest.now ≡ 0 = grind (arith, nat_tests, c.is_empty.ensures, c.loop-rest-test.false) in
-    clients_lacking _ _ c.if-bytes-gt-MOST_BYTES.false (read_all _ _ _ _ _ c.loop-rest.invariant.so_far (nil_from_length c.loop-rest.rest.now none) c.in-None.is)
+    clients_lacking _ _ c.if-bytes-gt-MOST_SCRIPT_BYTES.false (read_all _ _ _ _ _ c.loop-rest.invariant.so_far (nil_from_length c.loop-rest.rest.now none) c.in-None.is)
