@@ -18,7 +18,7 @@ use Rattle.journal_law.proofs.Grown.{first_has, map_before}
 use Rattle.journal_law.proofs.GrownGroups.{group_of_grown, after_listed, width_step_where}
 
 -- The groups of a journal with a new item.
-groups_with_call : (items : List Item) (entry : Entry)
+pub groups_with_call : (items : List Item) (entry : Entry)
     → groups_in (items ++ Call entry ∷ []) ≡ groups_in items
 groups_with_call [] entry = refl
 groups_with_call (Group group ∷ items) entry =
@@ -33,7 +33,7 @@ groups_with_group (Group other ∷ items) group =
 groups_with_group (Call entry ∷ items) group = groups_with_group items group
 
 -- What a journal says of its groups, it says when it has grown, if each was begun within it.
-each_grown : (handed : PutBytes) (opening : Map) (items more part : List Item) (answered : List Kept)
+pub each_grown : (handed : PutBytes) (opening : Map) (items more part : List Item) (answered : List Kept)
     → ((index : ℕ) (group : GroupItem) → GroupAt part index group → group.after ≤ length items)
     → AllZip (IsGroupOf handed opening items) (groups_in part) answered
     → AllZip (IsGroupOf handed opening (items ++ more)) (groups_in part) answered

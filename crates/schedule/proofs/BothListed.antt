@@ -1,30 +1,11 @@
 -- A group and the answer of the call that made it are listed at once.
-use Rattle.schedule.proofs.Words.{◌≡◌, inl, inr, ℕ, suc, ◌<◌, ◌≤◌, List, [], ◌∷◌, ◌++◌, length, refl, arith, length-append, AllZip, cases_lt, Entry, Item, Group, Call, Map, PutBytes, GroupAt, IsGroupBefore, Calls, Follows, GroupsAreRight, Kept, Groups, IsGroupOf, groups_in, contains_none, grown_has, group_before_first, new_or_before, group_of_grown, width_step_where}
+use Rattle.schedule.proofs.Words.{each_grown, groups_with_call, ◌≡◌, inl, inr, ℕ, ◌<◌, ◌≤◌, List, [], ◌∷◌, ◌++◌, length, refl, arith, length-append, cases_lt, Entry, Item, Group, Call, Map, PutBytes, GroupAt, IsGroupBefore, Calls, Follows, GroupsAreRight, Kept, Groups, contains_none, grown_has, group_before_first, new_or_before, width_step_where}
 use Rattle.core_state.specs.declared.item.Group.{Group as GroupItem}
 
 -- The last group before an index is one alone.
 pub one_latest : {items : List Item} {index : ℕ} {one other : GroupItem} → IsGroupBefore items index one
     → IsGroupBefore items index other → one ≡ other
 one_latest {items = items} {one = one} {other = other} first second = grind (arith, cases_lt)
-
--- An answer is no group.
-groups_with_call : (items : List Item) (entry : Entry) → groups_in (items ++ Call entry ∷ []) ≡ groups_in items
-groups_with_call [] entry = refl
-groups_with_call (item ∷ items) entry = grind (arith, groups_with_call items entry)
-
--- What a journal says of its groups it says when it has grown, where each was begun within it.
-each_later : (handed : PutBytes) (opening : Map) (items more part : List Item) (answered : List Kept)
-    → ((index : ℕ) (group : GroupItem) → GroupAt part index group → group.after ≤ length items)
-    → AllZip (IsGroupOf handed opening items) (groups_in part) answered
-    → AllZip (IsGroupOf handed opening (items ++ more)) (groups_in part) answered
-each_later handed opening items more [] answered within each = each
-each_later handed opening items more (Call entry ∷ part) answered within each =
-    each_later handed opening items more part answered (λ index group there. within (suc index) group there) each
-each_later handed opening items more (Group group ∷ part) [] within each = each
-each_later handed opening items more (Group group ∷ part) (kept ∷ answered) within each = (
-  group_of_grown handed opening items group kept more (within 0 group refl) each.0,
-  each_later handed opening items more part answered (λ index other there. within (suc index) other there) each.1,
-)
 
 module _ (items : List Item) (group : GroupItem) (entry : Entry) where
   abbrev with_group : List Item
@@ -74,7 +55,7 @@ module _ (items : List Item) (group : GroupItem) (entry : Entry) where
       → (groups : Groups calls handed opening known with_group) → groups.begun ≡ []
       → (grown : Groups calls handed opening known with_both) × (grown.answered ≡ groups.answered) × (grown.begun ≡ [])
   groups_both {handed = handed} {opening = opening} within after groups none =
-      (search (groups_with_call, each_later, each_within, contains_none, arith), refl, refl)
+      (search (groups_with_call, each_grown, each_within, contains_none, arith), refl, refl)
     where
       each_within : (index : ℕ) (other : GroupItem) → GroupAt with_group index other → other.after ≤ length with_group
       each_within index other there = search (new_or_before, length-append, after, arith)

@@ -160,7 +160,7 @@ pub use Rattle.journal_law.proofs.Distinct.{unique_among, unique_distinct}
 pub use Rattle.journal_law.proofs.Grown.{first_has, group_before_first, group_before_grown, grown_has, last_there, map_at_end, map_before, map_grown_call, map_grown_group, new_or_before}
 pub use Rattle.journal_law.proofs.GrownAnswers.{answers_alone, answers_grown_call, answers_grown_group, each_grown_call, each_grown_group}
 pub use Rattle.journal_law.proofs.GrownGroups.{after_listed, group_alone, group_of_grown, groups_grown_call, groups_grown_group, latest_alone, latest_grown_call, latest_grown_group, width_step_where}
-pub use Rattle.journal_law.proofs.GrownRun.{awaits_grown, groups_begun, groups_call, groups_cut, groups_end, groups_one}
+pub use Rattle.journal_law.proofs.GrownRun.{awaits_grown, each_grown, groups_begun, groups_call, groups_cut, groups_end, groups_one, groups_with_call}
 pub use Rattle.journal_law.proofs.ManyIds.{call_puts, held_or_put, one_too_many}
 pub use Rattle.journal_law.proofs.Moments.{contains_one}
 pub use Rattle.journal_law.proofs.NoSpace.{births_told_call, births_told_group, has_ended_call, has_ended_group, largest, no_space_alike, no_space_alone, no_space_call, no_space_group, taken_later, width_told_call, width_told_group}
