@@ -7,6 +7,7 @@ usage, at the top of the repository:
 
 A page cites a clause as `crate::function` (`label`, `label`), and a field of a definition as `field` of `Record`. The
 README of a crate says `label` of `function`, where it may be one of its own that is not exported, which is passed over.
+A law is cited as law `lemma`, several as laws `lemma`, `lemma`.
 """
 
 import glob
@@ -26,6 +27,9 @@ Each row is a clause of a function that a crate exports, or of a trait, or of a 
 without a label is written `(contract)`; `invariant` is what holds of each value of a type. The clause's text is there
 where it is short or cites no definition; else the definitions that it cites, with their file below `crates/`. In
 [promises.md](promises.md) stands what these clauses come to.
+
+Behind a crate's clauses stand its laws: lemmas on definitions alone, which are proved with the crate and which those
+above it rest on. A law's statement stands in the file that is named, below the line that says it.
 """
 
 
@@ -262,6 +266,15 @@ def add_rows(rows, source, name, function):
         rows.append((name, label, text, cited(source, text)))
 
 
+def laws_of(crate):
+    """Returns a crate's laws: lemma, what it says, file."""
+    rows = []
+    for path in sorted(glob.glob(f"crates/{crate}/proofs/**/*.antt", recursive=True)):
+        for text, name in re.findall(rf"^ *-- Law: ([^\n]*)\n *pub ({NAME}) :", read(path), re.MULTILINE):
+            rows.append((name, text, path.removeprefix("crates/")))
+    return rows
+
+
 def crates():
     return re.findall(r"^([a-z_]+):", read("crates.txt"), re.MULTILINE)
 
@@ -269,14 +282,20 @@ def crates():
 def page(rows_by_crate):
     lines = [HEAD]
     for crate, rows in rows_by_crate.items():
-        if not rows:
+        laws = laws_of(crate)
+        if not rows and not laws:
             continue
         lines.append(f"## {crate}\n")
-        lines.append("| function | label | says |\n|---|---|---|")
-        for name, label, text, definitions in rows:
-            shown = label if label == "(contract)" else f"`{label}`"
-            lines.append(f"| `{name}` | {shown} | {saying(text, definitions)} |")
-        lines.append("")
+        if rows:
+            lines.append("| function | label | says |\n|---|---|---|")
+            for name, label, text, definitions in rows:
+                shown = label if label == "(contract)" else f"`{label}`"
+                lines.append(f"| `{name}` | {shown} | {saying(text, definitions)} |")
+            lines.append("")
+        if laws:
+            lines.append("| law | says | stands in |\n|---|---|---|")
+            lines += [f"| `{name}` | {text} | {path} |" for name, text, path in laws]
+            lines.append("")
     return "\n".join(lines).rstrip() + "\n"
 
 
@@ -308,7 +327,7 @@ def fields():
     return found
 
 
-def strays(path, labels, records):
+def strays(path, labels, records, laws):
     """Returns what a page cites that is not there, and how much it cites."""
     text = " ".join(read(path).split())
     owners = {name: set(found) for name, found in records.items()}
@@ -322,7 +341,12 @@ def strays(path, labels, records):
         if path.startswith("crates/") and owner not in owners:
             continue
         pairs += [(label, owner, owners.get(owner, ())) for label in re.findall(r"`(\w+)`", listed)]
-    return [f"`{label}` of `{owner}`" for label, owner, there in pairs if label not in there], len(pairs)
+    missing = [f"`{label}` of `{owner}`" for label, owner, there in pairs if label not in there]
+    for listed in re.findall(r"\blaws? ((?:`\w+`(?:,? and |, )?)+)", text):
+        names = re.findall(r"`(\w+)`", listed)
+        missing += [f"the law `{name}`" for name in names if name not in laws]
+        pairs += names
+    return missing, len(pairs)
 
 
 def main():
@@ -336,8 +360,9 @@ def main():
         for name, label, _, _ in rows:
             labels.setdefault(name, set()).add(label)
     status = 0
+    laws = {name for crate in crates() for name, _, _ in laws_of(crate)}
     for path in sys.argv[2:]:
-        missing, count = strays(path, labels, fields())
+        missing, count = strays(path, labels, fields(), laws)
         if count == 0 and not path.startswith("crates/"):
             missing = ["no clause at all"]
         for what in missing:

@@ -46,6 +46,9 @@ surplus=$(comm -13 "$WORK/needed" "$WORK/drawn")
 echo 'ok the drawing of the crates'
 
 if python3 --version >/dev/null 2>&1; then
+  python3 docs/crates.py | cmp -s - docs/crates.svg ||
+    failed 'docs/crates.svg is not what docs/crates.py draws: python3 docs/crates.py >docs/crates.svg'
+  echo 'ok the drawing is of this crates.txt'
   python3 docs/clauses.py | cmp -s - docs/clauses.md ||
     failed 'docs/clauses.md is not what docs/clauses.py writes: python3 docs/clauses.py >docs/clauses.md'
   echo 'ok the list of clauses'

@@ -1,11 +1,13 @@
 -- What was read of a ring is what it shows.
-use Rattle.std.proofs.Common.{◌≡◌, inl, inr, ⊎_elim, ℕ, ◌+◌, ◌^◌, ◌<◌, ◌≤◌, List, Option, Some, None, refl, sym, ◌∙◌, subst, arith}
+use Rattle.std.proofs.Common.{◌≡◌, inl, inr, ⊎_elim, ℕ, ◌+◌, ◌^◌, ◌<◌, ◌≤◌, List, Option, Some, None, refl, sym, ◌∙◌}
+use Rattle.std.proofs.Common.{subst, arith}
 use Rattle.std.proofs.lemmas.Bool.{cases_lt}
 use Rattle.bank_trait.specs.Disk.{Disk}
 use Rattle.uberblock_ring.specs.Uberblock.{Uber, encoded, slot_of}
 use Rattle.uberblock_ring.specs.Valid.{IsRightUber}
 use Rattle.attach_ring.specs.Ring.{HasReadRing, IsLowestTaken, IsTakenSlot, IsTakenThen, ReadsSlot, RingRead}
 
+-- Law: Before its first slot is read, what was read of a ring is what it shows.
 pub none_read : (disk : Disk) (device : ℕ) → HasReadRing disk (record { device = device; slots = 0; taken = None })
 none_read disk device slot low = absurd (omega (arith, low))
 
@@ -29,6 +31,7 @@ step_in disk device slots bytes None now told (inr free) before = subst (IsLowes
     (subst (λ (s : ℕ). IsTakenSlot s known) same shown)))
     (cases_lt slot slots))
 
+-- Law: What was read of a ring stays what it shows over each slot that is read.
 pub one_more_read : (disk : Disk) (old new : RingRead) → ReadsSlot disk old new → HasReadRing disk old
     → HasReadRing disk new
 one_more_read disk old new reads before = subst (HasReadRing disk) (sym reads.rest)
@@ -46,12 +49,13 @@ beside_in before after device slots (Some taken) same shown = (
       (sym (same slot (let within = shown.0 in omega (arith, low, within))) ∙ is)),
 )
 
+-- Law: A turn of another call that leaves what is read of the ring's first slots leaves that too.
 pub read_beside : (before after : Disk) (ring : RingRead)
     → ((slot : ℕ) → slot < ring.slots → after.reads ring.device slot ≡ before.reads ring.device slot)
     → HasReadRing before ring → HasReadRing after ring
 read_beside before after ring = beside_in before after ring.device ring.slots ring.taken
 
--- A ring that was read whole and is free shows no uberblock.
+-- Law: A ring that was read to its end and shows no uberblock has none, for this device or another.
 pub free_shows_none : (disk : Disk) (ring : RingRead) (uber : Uber) (number : ℕ) → HasReadRing disk ring
     → ring.slots ≡ 32 → ring.taken ≡ None → IsRightUber uber → number < 2 ^ 32
     → disk.reads ring.device (slot_of uber.group) ≡ Some (encoded uber number) → ⊥
@@ -61,5 +65,5 @@ free_shows_none disk ring uber number read whole free right fits is =
       uber = uber;
       number = number;
       fits = fits;
-      valid = record { right = right; slot_is = refl; copy = refl };
+      valid = record { right = right; slot_is = refl; bytes_are = refl };
     })

@@ -1,14 +1,12 @@
 //! The ring of a device that is to be attached: read slot by slot, and whether it shows an uberblock.
 //!
 //! A device that shows one, of whatever pool and for whatever device number, is taken, and its lowest such slot is
-//! told. An opening asks of each slot what it shows, for whichever device (`copy_in_slot`). Read `specs/Ring.antt`.
+//! told. An opening asks of each slot what it shows, for whichever device (`uber_in_slot`). Read `specs/Ring.antt`.
 //! Stands on `uberblock_ring`.
 #![tactic(auto)]
 
-mod laws;
 mod ring_read;
 mod taken;
 
-pub use laws::{free_ring_shows_none, ring_read_holds};
 pub use ring_read::RingRead;
-pub use taken::{SlotCopy, copy_in_slot};
+pub use taken::{SlotUber, uber_in_slot};

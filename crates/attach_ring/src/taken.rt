@@ -6,32 +6,32 @@ ghost use Rattle.attach_ring.specs.Ring.{IsTakenSlot, IsTakenThen};
 use block_record::u32_at;
 use uberblock_ring::Uber;
 
-/// Where a copy tells its device's number, in bytes.
+/// Where an uberblock tells its device's number, in bytes.
 const NUMBER_AT: usize = 12;
 
 /// An uberblock as a slot shows it, and the number of the device that it is for.
 #[derive(Clone, Copy, Debug, PartialEq, Eq)]
-pub struct SlotCopy {
+pub struct SlotUber {
     pub number: u32,
     pub uber: Uber,
 }
 
 /// The uberblock that these bytes are in this slot, for whichever device.
-pub fn copy_in_slot(bytes: &[u8; 512], slot: u32) -> Option<SlotCopy>
-    ensures number { IfSome result (λ copy. copy.number < 2 ^ 32) }
-    ensures some { IfSome result (λ copy. IsValidIn copy.uber copy.number slot bytes.now) }
+pub fn uber_in_slot(bytes: &[u8; 512], slot: u32) -> Option<SlotUber>
+    ensures number { IfSome result (λ slot_uber. slot_uber.number < 2 ^ 32) }
+    ensures some { IfSome result (λ slot_uber. IsValidIn slot_uber.uber slot_uber.number slot bytes.now) }
     ensures none { IfNone result (IsTakenSlot slot bytes.now → ⊥) }
 {
     let number = u32_at(bytes, NUMBER_AT);
     let uber = Uber::decode(bytes, number, slot)?;
-    Some(SlotCopy { number, uber })
+    Some(SlotUber { number, uber })
 }
 
 /// Whether these bytes in this slot are an uberblock, for whichever device.
 fn is_taken(bytes: &[u8; 512], slot: u32) -> bool
     ensures { IsTrue result ↔ IsTakenSlot slot bytes.now }
 {
-    copy_in_slot(bytes, slot).is_some()
+    uber_in_slot(bytes, slot).is_some()
 }
 
 /// The lowest slot that shows an uberblock, once these bytes of a slot above were read too.

@@ -1,5 +1,6 @@
 -- A copy of some rows is as wide as they are.
-use Rattle.std.proofs.Common.{◌≡◌, ⊎_elim, ℕ, zero, suc, ◌<◌, ◌≤◌, List, [], ◌∷◌, length, Option, Some, None, Vec, refl, sym, ◌∙◌, ap, subst, arith, slice_get, option_and_then}
+use Rattle.std.proofs.Common.{◌≡◌, ⊎_elim, ℕ, zero, suc, ◌<◌, ◌≤◌, List, [], ◌∷◌, length, Option, Some, None, Vec, refl}
+use Rattle.std.proofs.Common.{sym, ◌∙◌, ap, subst, arith, slice_get, option_and_then}
 use Rattle.std.specs.Prelude.{IsSome}
 use Rattle.std.specs.declared.alloc.Global.{Global}
 use Rattle.std.proofs.lemmas.Bool.{cases_lt}

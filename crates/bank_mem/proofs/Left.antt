@@ -1,6 +1,7 @@
 -- What a stop leaves in each sector, call by call: before its device's last sync what is read, and
 -- after it what its listing says.
-use Rattle.std.proofs.Common.{◌≡◌, length, get_or, slice_index, take, ◌≢◌, inl, inr, ⊎_elim, ℕ, ◌+◌, ◌<◌, ◌≤◌, List, [], ◌∷◌, Option, Some, None, refl, sym, ◌∙◌, ap, subst, arith, slice_get}
+use Rattle.std.proofs.Common.{◌≡◌, length, get_or, slice_index, take, ◌≢◌, inl, inr, ⊎_elim, ℕ, ◌+◌, ◌<◌, ◌≤◌, List, []}
+use Rattle.std.proofs.Common.{◌∷◌, Option, Some, None, refl, sym, ◌∙◌, ap, subst, arith, slice_get}
 use Rattle.std.specs.Prelude.{IsSome, option_to_list}
 use Rattle.std.specs.List.{last_or}
 use Rattle.std.proofs.lemmas.List.{take_more}
@@ -13,7 +14,8 @@ use Rattle.bank_mem.specs.declared.record.Call.{Call}
 use Rattle.bank_mem.specs.declared.record.Call.TheVariants.{Write, FailedWrite, Sync, Spoil}
 use Rattle.bank_mem.specs.declared.crash.Tear.{Tear}
 use Rattle.bank_mem.specs.declared.crash.Tear.TheVariants.{Kept, Filled}
-use Rattle.bank_mem.specs.Record.{Held, held_durably, after, replay, put, handed, could_only, filled, called_device, called_sector}
+use Rattle.bank_mem.specs.Record.{Held, held_durably, after, replay, put, handed, could_only, filled, called_device}
+use Rattle.bank_mem.specs.Record.{called_sector}
 use Rattle.bank_mem.specs.CrashSteps.{IsSyncedUpTo, torn_to, torn_after}
 use Rattle.bank_mem.proofs.Steps.{replay-append, put-same, put-other, handed-same, handed-other}
 

@@ -1,5 +1,6 @@
 -- How sectors are listed as torn, over one entry more.
-use Rattle.std.proofs.Common.{◌≡◌, ℕ, ◌+◌, ◌<◌, List, [], ◌∷◌, ◌++◌, length, take, get_or, cond, find, reverse, Option, Some, sym, ◌∙◌, ap, option_map, Bool, true, false, refl}
+use Rattle.std.proofs.Common.{◌≡◌, ℕ, ◌+◌, ◌<◌, List, [], ◌∷◌, ◌++◌, length, take, get_or, cond, find, reverse, Option}
+use Rattle.std.proofs.Common.{Some, sym, ◌∙◌, ap, option_map, Bool, true, false, refl}
 use Rattle.std.proofs.lemmas.List.{reverse-append, take_more}
 use Rattle.bank_mem.specs.declared.crash.Torn.{Torn}
 use Rattle.bank_mem.specs.declared.crash.Tear.{Tear}

@@ -1,5 +1,6 @@
 -- What a stop leaves on devices in memory, where it is told how it tears each sector.
-use Rattle.std.specs.Prelude.{ℕ, List, [], Option, None, Bool, ◌&&◌, ◌==◌, find, reverse, option_map, slice_get, unwrap_or}
+use Rattle.std.specs.Prelude.{ℕ, List, [], Option, None, Bool, ◌&&◌, ◌==◌, find, reverse, option_map, slice_get}
+use Rattle.std.specs.Prelude.{unwrap_or}
 use Rattle.std.specs.List.{last_or}
 use Rattle.bank_trait.specs.Disk.{Image}
 use Rattle.bank_mem.specs.Record.{Shelf, content}

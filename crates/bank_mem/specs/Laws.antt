@@ -1,6 +1,7 @@
 -- The law of a bank in memory: what is certain to stay is what is read, what is read is one of what
 -- the sector could hold, and where bytes are certain it could hold no others.
-use Rattle.std.specs.Prelude.{◌≡◌, ℕ, List, [], ◌∷◌, length, zero, suc, ◌<◌, take, Option, Some, None, Bool, true, false, ◌&&◌, ◌==◌, if◌then◌else◌, refl, Contains, option_to_list}
+use Rattle.std.specs.Prelude.{◌≡◌, ℕ, List, [], ◌∷◌, length, zero, suc, ◌<◌, take, Option, Some, None, Bool, true}
+use Rattle.std.specs.Prelude.{false, ◌&&◌, ◌==◌, if◌then◌else◌, refl, Contains, option_to_list}
 use Rattle.std.proofs.Common.{sym, ◌∙◌, subst, arith, get_or}
 use Rattle.std.proofs.lemmas.List.{take_all}
 use Rattle.bank_trait.specs.Disk.{Lawful}

@@ -1,6 +1,7 @@
 -- What a record of writes and syncs says of the devices: what is read, what a crash leaves for
 -- certain, and what each sector could hold.
-use Rattle.std.specs.Prelude.{ℕ, List, [], ◌∷◌, Option, Some, None, ◌&&◌, ◌==◌, if◌then◌else◌, Vec, slice_get, option_and_then, nat_lt, option_to_list, replicate}
+use Rattle.std.specs.Prelude.{ℕ, List, [], ◌∷◌, Option, Some, None, ◌&&◌, ◌==◌, if◌then◌else◌, Vec, slice_get}
+use Rattle.std.specs.Prelude.{option_and_then, nat_lt, option_to_list, replicate}
 use Rattle.std.specs.declared.alloc.Global.{Global}
 use Rattle.bank_trait.specs.Disk.{Known}
 use Rattle.bank_trait.specs.Regions.{zero_sector}

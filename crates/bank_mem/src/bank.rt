@@ -1,5 +1,6 @@
 // A bank of devices in memory.
-ghost use Rattle.std.specs.Prelude.{◌≡◌, ◌≢◌, ◌<◌, ◌≤◌, ◌^◌, ◌++◌, [], ◌∷◌, ℕ, List, IfOk, Err, OnOk, OnErr, length, Some, None, Contains};
+ghost use Rattle.std.specs.Prelude.{◌≡◌, ◌≢◌, ◌<◌, ◌≤◌, ◌^◌, ◌++◌, [], ◌∷◌, ℕ, List, IfOk, Err, OnOk, OnErr, length};
+ghost use Rattle.std.specs.Prelude.{Some, None, Contains};
 ghost use Rattle.bank_mem.specs.Sound.{LeadsTo, AllWide, AllPlaced};
 
 use crate::crash::{self, Torn};

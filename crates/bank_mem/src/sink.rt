@@ -49,7 +49,8 @@ impl MemSink {
 impl Sink for MemSink {
     ghost use Rattle.bank_trait.specs.Causes.{HasCause, counted};
     ghost use Rattle.bank_trait.specs.Stream.{Takes};
-    ghost use Rattle.bank_mem.specs.MemStreams.{bytes_taken, room_of, write_faults, writes_made, listed_writes, WriteFailsNext};
+    ghost use Rattle.bank_mem.specs.MemStreams.{bytes_taken, room_of, write_faults, writes_made, listed_writes};
+    ghost use Rattle.bank_mem.specs.MemStreams.{WriteFailsNext};
 
     ghost held = { λ s. Some (bytes_taken s) };
 

@@ -4,7 +4,8 @@ use Rattle.std.proofs.lemmas.Bool.{cases_eq, cases_lt}
 use Rattle.bank_trait.specs.declared.Failed.{Failed}
 use Rattle.bank_trait.specs.Disk.{Disk, Lawful, Later, Continues, Other, Wrote, Synced}
 use Rattle.bank_trait.specs.Regions.{Tells, TouchesOnly}
-use Rattle.bank_trait.proofs.Moments.{later_refl, later_trans, left_cases, left_now, left_last, now_left, before_write, before_sync}
+use Rattle.bank_trait.proofs.Moments.{later_refl, later_trans, left_cases, left_now, left_last, now_left, before_write}
+use Rattle.bank_trait.proofs.Moments.{before_sync}
 
 -- At each moment of one call a sector is as it is after it, or as it was before.
 call_moments : {old new : Disk} → Continues old new → (d x : ℕ)

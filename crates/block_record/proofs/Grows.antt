@@ -1,5 +1,6 @@
 -- A list that one more piece is put to.
-use Rattle.std.proofs.Common.{◌≡◌, ℕ, ◌+◌, ◌-◌, ◌≤◌, List, ◌++◌, ◌∙◌, ap, append_assoc, arith, sym, drop, length, replicate, take}
+use Rattle.std.proofs.Common.{◌≡◌, ℕ, ◌+◌, ◌-◌, ◌≤◌, List, ◌++◌, ◌∙◌, ap, append_assoc, arith, sym, drop, length}
+use Rattle.std.proofs.Common.{replicate, take}
 use Rattle.std.proofs.lemmas.List.{length-drop, length-replicate, length-take, length-take-le}
 use Rattle.std.proofs.lemmas.Slice.{take-put_mid}
 use borrow.Rule.Slice.PartMut.{mid_of, put_mid}

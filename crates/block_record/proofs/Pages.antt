@@ -1,9 +1,13 @@
 -- What a page begins with, and where other bytes go wrong.
-use Rattle.std.proofs.Common.{◌≡◌, ℕ, ◌+◌, ◌-◌, ◌*◌, ◌<◌, ◌≤◌, List, [], ◌∷◌, ◌++◌, length, take, drop, get_or, replicate, refl, sym, ◌∙◌, ap, subst, arith, inl, inr, ⊎_elim, length-append}
+use Rattle.std.proofs.Common.{◌≡◌, ℕ, ◌+◌, ◌-◌, ◌*◌, ◌<◌, ◌≤◌, List, [], ◌∷◌, ◌++◌, length, take, drop, get_or}
+use Rattle.std.proofs.Common.{replicate, refl, sym, ◌∙◌, ap, subst, arith, inl, inr, ⊎_elim, length-append}
 use Rattle.std.specs.Prelude.{All, flat_map, IsTrue, nat_lt, slice_get, slice_index, Some, ◌≢◌}
 use Rattle.std.proofs.lemmas.Bool.{cases_lt, lt-ltb, ltb-true}
 use Rattle.std.proofs.lemmas.Option.{get_or_from_slice_get, slice_get_within}
-use Rattle.std.proofs.lemmas.List.{append-nil, drop_at, drop-take, ext_get_or, get_or_append_left, get_or_push, get_or-append_right, get_or-drop, get_or-replicate, get_or-take, length_push, length-drop, length-replicate, length-take-le, take_at, take_more, take-append-drop, take-take}
+use Rattle.std.proofs.lemmas.List.{append-nil, drop_at, drop-take, ext_get_or, get_or_append_left, get_or_push}
+use Rattle.std.proofs.lemmas.List.{get_or-append_right, get_or-drop, get_or-replicate, get_or-take, length_push}
+use Rattle.std.proofs.lemmas.List.{length-drop, length-replicate, length-take-le, take_at, take_more, take-append-drop}
+use Rattle.std.proofs.lemmas.List.{take-take}
 use Rattle.std.proofs.lemmas.List.Concat.{flat_map-append}
 use Rattle.std.proofs.lemmas.List.Elements.{All-head, All-push, All-tail, All-take}
 use Rattle.std.proofs.lemmas.List.Quantifiers.{all_pairs_push}

@@ -1,8 +1,10 @@
 -- The bytes of several entries, and the sectors of a page.
-use Rattle.std.proofs.Common.{◌≡◌, ℕ, ◌+◌, ◌-◌, ◌*◌, ◌<◌, ◌≤◌, List, [], ◌∷◌, ◌++◌, length, take, drop, replicate, refl, sym, ◌∙◌, ap, arith, ⊎_elim, length-append, min}
+use Rattle.std.proofs.Common.{◌≡◌, ℕ, ◌+◌, ◌-◌, ◌*◌, ◌<◌, ◌≤◌, List, [], ◌∷◌, ◌++◌, length, take, drop, replicate, refl}
+use Rattle.std.proofs.Common.{sym, ◌∙◌, ap, arith, ⊎_elim, length-append, min}
 use Rattle.std.specs.Prelude.{All, flat_map}
 use Rattle.std.proofs.lemmas.Bool.{cases_lt}
-use Rattle.std.proofs.lemmas.List.{append-nil, drop_at, drop-append-le, length-drop, length-replicate, length-take-le, take_all, take_at, take_min, take-append-drop, take-append-le}
+use Rattle.std.proofs.lemmas.List.{append-nil, drop_at, drop-append-le, length-drop, length-replicate, length-take-le}
+use Rattle.std.proofs.lemmas.List.{take_all, take_at, take_min, take-append-drop, take-append-le}
 use Rattle.std.proofs.lemmas.List.Concat.{flat_map-append}
 use Rattle.std.proofs.lemmas.List.Elements.{All-drop, All-head, All-tail, All-take}
 use Rattle.block_record.specs.declared.entry.IndexEntry.{IndexEntry}

@@ -1,9 +1,11 @@
 // From the bytes of a page to its entries.
-ghost use Rattle.std.specs.Prelude.{◌≡◌, ◌≢◌, ℕ, ◌+◌, ◌*◌, ◌<◌, ◌≤◌, ◌↔◌, List, length, take, slice_index, All, IsTrue, IsErrAnd, IfOk, IfErr, IfNone, IfSome, MatchResult};
+ghost use Rattle.std.specs.Prelude.{◌≡◌, ◌≢◌, ℕ, ◌+◌, ◌*◌, ◌<◌, ◌≤◌, ◌↔◌, List, length, take, slice_index, All, IsTrue};
+ghost use Rattle.std.specs.Prelude.{IsErrAnd, IfOk, IfErr, IfNone, IfSome, MatchResult};
 ghost use Rattle.block_record.specs.declared.entry.IndexEntry.{IndexEntry};
 ghost use Rattle.block_record.specs.declared.read.IndexRefused.TheVariants.{BadIndex, NoMemory};
 ghost use Rattle.block_record.specs.Page.{page_sectors, IsIndex, IsPageOf};
-ghost use Rattle.block_record.specs.Index.{AreZeros, BeginsWith, entry_fields, FitsFields, HasRightLengthAndBirth, IsBadIndex, SpellsEntry, IsNext};
+ghost use Rattle.block_record.specs.Index.{AreZeros, BeginsWith, entry_fields, FitsFields, HasRightLengthAndBirth};
+ghost use Rattle.block_record.specs.Index.{IsBadIndex, SpellsEntry, IsNext};
 ghost use Rattle.block_record.specs.Refused.{IsBadAt, IsWrongAt};
 
 use crate::entry::IndexEntry;

@@ -1,5 +1,6 @@
 // Ids that puts under way have reserved.
-ghost use Rattle.std.specs.Prelude.{◌≡◌, ◌↔◌, ◌<◌, ◌≤◌, ◌+◌, ◌^◌, ◌++◌, drop, IsTrue, length, nat_eq, take, true, vec_len};
+ghost use Rattle.std.specs.Prelude.{◌≡◌, ◌↔◌, ◌<◌, ◌≤◌, ◌+◌, ◌^◌, ◌++◌, drop, IsTrue, length, nat_eq, take, true};
+ghost use Rattle.std.specs.Prelude.{vec_len};
 ghost use Rattle.std.specs.Set.{distinct_count, is_member};
 ghost use Rattle.std.specs.Vec.{vec_capacity};
 ghost use Rattle.block_record.specs.Page.{IsIndex};

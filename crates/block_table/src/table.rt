@@ -1,5 +1,6 @@
 // The table of blocks.
-ghost use Rattle.std.specs.Prelude.{◌≡◌, ◌≢◌, ◌↔◌, ◌<◌, ◌≤◌, ◌++◌, [], ◌∷◌, IfErr, IsErrOf, IsTrue, length, MatchResult, nat_eq, None, OnErr, OnOk, Some, true};
+ghost use Rattle.std.specs.Prelude.{◌≡◌, ◌≢◌, ◌↔◌, ◌<◌, ◌≤◌, ◌++◌, [], ◌∷◌, IfErr, IsErrOf, IsTrue, length};
+ghost use Rattle.std.specs.Prelude.{MatchResult, nat_eq, None, OnErr, OnOk, Some, true};
 ghost use Rattle.std.specs.Option.{option_copied};
 ghost use Rattle.std.specs.Set.{is_member};
 ghost use Rattle.block_record.specs.Page.{IsIndex, IsRightEntry};

@@ -1,5 +1,6 @@
 -- What the calls of a script hold, and whose they are.
-use Rattle.std.proofs.Common.{◌≡◌, ℕ, zero, suc, ◌+◌, ◌<◌, ◌≤◌, List, [], ◌∷◌, length, Option, Some, None, refl, sym, subst, arith}
+use Rattle.std.proofs.Common.{◌≡◌, ℕ, zero, suc, ◌+◌, ◌<◌, ◌≤◌, List, [], ◌∷◌, length, Option, Some, None, refl, sym}
+use Rattle.std.proofs.Common.{subst, arith}
 use Rattle.std.specs.Prelude.{All}
 use Rattle.std.specs.List.{AllZip}
 use Rattle.std.proofs.lemmas.List.Elements.{All-nil, All-cons}
@@ -7,8 +8,10 @@ use Rattle.core_state.specs.declared.answer.Kind.{Kind}
 use Rattle.core_state.specs.declared.answer.Kind.TheVariants.{Put, Get, Sum, Free, Sync, Attach, Copy, Scrub}
 use Rattle.client_script.specs.declared.call.Fill.{Fill}
 use Rattle.client_script.specs.declared.call.Fill.TheVariants.{Nothing, Pattern, Hex}
-use Rattle.client_script.specs.Lines.{Line, Passed, Clients, CallLine, Order, IsLineText, pattern_byte, pattern_from, fill_bytes}
-use Rattle.client_script.specs.Script.{Script, Placed, AreRightBelow, AreRightLines, MayHave, IsAllowed, IsScript, clients_in, calls_in, most_clients}
+use Rattle.client_script.specs.Lines.{Line, Passed, Clients, CallLine, Order, IsLineText, pattern_byte, pattern_from}
+use Rattle.client_script.specs.Lines.{fill_bytes}
+use Rattle.client_script.specs.Script.{Script, Placed, AreRightBelow, AreRightLines, MayHave, IsAllowed, IsScript}
+use Rattle.client_script.specs.Script.{clients_in, calls_in, most_clients}
 
 pattern_length : (seed from len : ℕ) → length (pattern_from seed from len) ≡ len
 pattern_length seed from zero = refl

@@ -1,14 +1,17 @@
 -- What is wrong with the words of a call.
-use Rattle.std.proofs.Common.{◌≡◌, ◌≢◌, inl, inr, ℕ, ◌*◌, ◌<◌, ◌≤◌, List, [], ◌∷◌, ◌++◌, length, cond, Bool, true, false, Some, None, decimal, refl, sym, ◌∙◌, ap, subst, arith, eqb, ne_eqb, append_assoc}
+use Rattle.std.proofs.Common.{◌≡◌, ◌≢◌, inl, inr, ℕ, ◌*◌, ◌<◌, ◌≤◌, List, [], ◌∷◌, ◌++◌, length, cond, Bool, true}
+use Rattle.std.proofs.Common.{false, Some, None, decimal, refl, sym, ◌∙◌, ap, subst, arith, eqb, ne_eqb, append_assoc}
 use Rattle.std.specs.Prelude.{All, codes}
 use Rattle.std.proofs.lemmas.List.Elements.{All-head, All-tail}
 use Rattle.core_state.specs.declared.answer.Kind.{Kind}
 use Rattle.core_state.specs.declared.answer.Kind.TheVariants.{Put, Get, Sum, Free, Sync, Attach, Copy}
 use Rattle.client_script.specs.declared.call.Fill.TheVariants.{Nothing, Pattern, Hex}
-use Rattle.client_script.specs.declared.call_fault.CallFault.TheVariants.{UnknownCall, Number, PutWords, NoBytes, TooManyBytes, HexDigits, IdAlone, WordAlone}
+use Rattle.client_script.specs.declared.call_fault.CallFault.TheVariants.{UnknownCall, Number, PutWords, NoBytes}
+use Rattle.client_script.specs.declared.call_fault.CallFault.TheVariants.{TooManyBytes, HexDigits, IdAlone, WordAlone}
 use Rattle.client_script.specs.Lines.{with_byte}
 use Rattle.client_script.specs.Words.{IsCut, IsNumber, IsPattern, IsHexWords, IsWords, HasNoCall, IsBareWord}
-use Rattle.client_script.specs.Faults.{split_words, AreNumbers, IsIdName, IsPutName, IsBareName, IsCallName, IsCallFault}
+use Rattle.client_script.specs.Faults.{split_words, AreNumbers, IsIdName, IsPutName, IsBareName, IsCallName}
+use Rattle.client_script.specs.Faults.{IsCallFault}
 use Rattle.client_script.proofs.CallWords.{hex_read}
 
 -- A byte that is no space begins the first word.

@@ -8,8 +8,10 @@ use Rattle.client_script.specs.declared.refused.ReadRefused.TheVariants.{SourceF
 use Rattle.client_script.specs.Script.{Script, IsScript, IsOverLimit, IsFaultAt, reached_by}
 use Rattle.client_script.specs.Faults.{IsFaultFor}
 use Rattle.client_script.specs.Reading.{IsRefusedFor}
-use Rattle.client_script.specs.FromSource.{read_refusal, IsToldWell, IsNotReadFor, IsReadUnlessNoMemory, IsReadFaultUnlessNoMemory}
-use Rattle.client_script.proofs.OneAnswer.{one_script, script_or_fault, script_or_limit, one_fault, fault_or_limit, one_limit}
+use Rattle.client_script.specs.FromSource.{read_refusal, IsToldWell, IsNotReadFor, IsReadUnlessNoMemory}
+use Rattle.client_script.specs.FromSource.{IsReadFaultUnlessNoMemory}
+use Rattle.client_script.proofs.OneAnswer.{one_script, script_or_fault, script_or_limit, one_fault, fault_or_limit}
+use Rattle.client_script.proofs.OneAnswer.{one_limit}
 
 -- So many bytes were read, and the rest is left.
 pub record IsReadUpTo (bytes : List ℕ) (before now : Option (List ℕ)) : Type 0 where

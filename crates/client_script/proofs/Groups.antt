@@ -1,12 +1,15 @@
 -- Calls by actor, and the order in which they were given.
-use Rattle.std.proofs.Common.{◌≡◌, ◌≢◌, ℕ, ◌<◌, List, [], ◌∷◌, ◌++◌, length, get_or, take, drop, set, Bool, true, false, cond, refl, sym, ◌∙◌, ap, arith, append_assoc, eq-eqb, ne_eqb, ⊎_elim, subst}
+use Rattle.std.proofs.Common.{◌≡◌, ◌≢◌, ℕ, ◌<◌, List, [], ◌∷◌, ◌++◌, length, get_or, take, drop, set, Bool, true, false}
+use Rattle.std.proofs.Common.{cond, refl, sym, ◌∙◌, ap, arith, append_assoc, eq-eqb, ne_eqb, ⊎_elim, subst}
 use Rattle.std.proofs.lemmas.Bool.{cases_eq}
 use Rattle.std.specs.Prelude.{map, filter, ◌==◌, ◌≤◌, Vec, replicate, Result, Ok, Err, OnOk, OnErr}
 use Rattle.std.specs.declared.alloc.AllocError.{AllocError}
 use Rattle.std.proofs.lemmas.Result.{on_ok_weaker, on_err_weaker}
 use Rattle.std.proofs.lemmas.Bool.{cases_lt}
 use Rattle.std.specs.Global.{Global}
-use Rattle.std.proofs.lemmas.List.{nil_from_length, length-drop, length-map, map-set, get_or-map, get_or_past, get_or-replicate, get_or-set_same, get_or-set_other, take-append-drop, map-append, length-append, length-replicate}
+use Rattle.std.proofs.lemmas.List.{nil_from_length, length-drop, length-map, map-set, get_or-map, get_or_past}
+use Rattle.std.proofs.lemmas.List.{get_or-replicate, get_or-set_same, get_or-set_other, take-append-drop, map-append}
+use Rattle.std.proofs.lemmas.List.{length-append, length-replicate}
 use Rattle.std.proofs.lemmas.List.Elements.{filter-append}
 use Rattle.client_script.specs.declared.call.ScriptCall.{ScriptCall}
 use Rattle.client_script.specs.Script.{Placed}

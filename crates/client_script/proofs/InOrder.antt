@@ -1,5 +1,6 @@
 -- Each call in line order stands among its client's calls behind those that were given before.
-use Rattle.std.proofs.Common.{◌≡◌, ◌≢◌, ℕ, zero, suc, ◌+◌, ◌-◌, ◌<◌, List, [], ◌∷◌, length, get_or, take, set, Bool, true, false, cond, Option, Some, refl, sym, ◌∙◌, ap, arith, eq-eqb, ne_eqb, ⊎_elim, subst}
+use Rattle.std.proofs.Common.{◌≡◌, ◌≢◌, ℕ, zero, suc, ◌+◌, ◌-◌, ◌<◌, List, [], ◌∷◌, length, get_or, take, set, Bool}
+use Rattle.std.proofs.Common.{true, false, cond, Option, Some, refl, sym, ◌∙◌, ap, arith, eq-eqb, ne_eqb, ⊎_elim, subst}
 use Rattle.std.specs.Prelude.{map, filter, ◌==◌, slice_get, option_map, unwrap_or}
 use Rattle.std.proofs.lemmas.Bool.{cases_eq}
 use Rattle.std.proofs.lemmas.List.{get_or-set_same, get_or-set_other}

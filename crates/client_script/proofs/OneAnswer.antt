@@ -1,5 +1,6 @@
 -- A script has one answer at most.
-use Rattle.std.proofs.Common.{◌≡◌, ℕ, zero, suc, ◌+◌, ◌<◌, ◌≤◌, List, [], ◌∷◌, take, Some, refl, sym, ◌∙◌, ap, subst, arith, inl, inr, ⊎_elim}
+use Rattle.std.proofs.Common.{◌≡◌, ℕ, zero, suc, ◌+◌, ◌<◌, ◌≤◌, List, [], ◌∷◌, take, Some, refl, sym, ◌∙◌, ap, subst}
+use Rattle.std.proofs.Common.{arith, inl, inr, ⊎_elim}
 use Rattle.std.specs.Prelude.{Result, Ok, Err, IfOk, IfErr, slice_get}
 use Rattle.std.specs.List.{AllZip}
 use Rattle.std.proofs.lemmas.List.{take-take}
@@ -7,7 +8,8 @@ use Rattle.std.proofs.lemmas.Bool.{cases_lt}
 use Rattle.client_script.specs.declared.refused.ParseRefused.{ParseRefused}
 use Rattle.client_script.specs.declared.refused.ParseRefused.TheVariants.{ScriptFault, Limit, NoMemory}
 use Rattle.client_script.specs.Lines.{Line, Clients, CallLine, IsLineText, split_lines}
-use Rattle.client_script.specs.Script.{Script, AreLines, IsScript, BreaksAt, PassesLimit, IsOverLimit, IsFaultAt, reached_by, clients_in, calls_in, order_in}
+use Rattle.client_script.specs.Script.{Script, AreLines, IsScript, BreaksAt, PassesLimit, IsOverLimit, IsFaultAt}
+use Rattle.client_script.specs.Script.{reached_by, clients_in, calls_in, order_in}
 use Rattle.client_script.specs.Reading.{IsRefusedFor, IsUnlessNoMemory, IsFaultUnlessNoMemory}
 use Rattle.client_script.proofs.OneMeaning.{one_meaning}
 use Rattle.client_script.proofs.RightLines.{right_take}

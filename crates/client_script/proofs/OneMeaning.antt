@@ -1,5 +1,6 @@
 -- A line has one meaning at most.
-use Rattle.std.proofs.Common.{◌≡◌, ℕ, ◌+◌, ◌/◌, ◌%◌, ◌^◌, ◌<◌, List, [], ◌∷◌, ◌++◌, length, drop, get_or, Option, Some, None, decimal, refl, sym, ◌∙◌, ap, subst, arith, append_assoc}
+use Rattle.std.proofs.Common.{◌≡◌, ℕ, ◌+◌, ◌/◌, ◌%◌, ◌^◌, ◌<◌, List, [], ◌∷◌, ◌++◌, length, drop, get_or, Option, Some}
+use Rattle.std.proofs.Common.{None, decimal, refl, sym, ◌∙◌, ap, subst, arith, append_assoc}
 use Rattle.std.specs.Prelude.{codes, map, All, ⊤}
 use Rattle.std.specs.Str.Parse.{digits_value}
 use Rattle.std.proofs.lemmas.Bool.Decides.{nat_tests}
@@ -8,7 +9,8 @@ use Rattle.core_state.specs.declared.answer.Kind.{Kind}
 use Rattle.core_state.specs.declared.answer.Kind.TheVariants.{Put, Get, Sum, Free, Sync, Attach, Copy, Scrub}
 use Rattle.client_script.specs.declared.call.Fill.{Fill}
 use Rattle.client_script.specs.declared.call.Fill.TheVariants.{Nothing, Pattern, Hex}
-use Rattle.client_script.specs.Lines.{Line, Passed, Clients, CallLine, Order, IsLineText, IsPassedText, client_letter, hex_digit, hex_text}
+use Rattle.client_script.specs.Lines.{Line, Passed, Clients, CallLine, Order, IsLineText, IsPassedText, client_letter}
+use Rattle.client_script.specs.Lines.{hex_digit, hex_text}
 use Rattle.client_script.proofs.Numbers.{one_leading, one_number}
 
 -- the calls that words may ask for

@@ -1,9 +1,11 @@
 -- One line more of a script.
-use Rattle.std.proofs.Common.{◌≡◌, ℕ, zero, suc, ◌+◌, ◌<◌, ◌≤◌, List, [], ◌∷◌, ◌++◌, length, take, Option, Some, None, refl, sym, ◌∙◌, ap, subst, arith, append_assoc}
+use Rattle.std.proofs.Common.{◌≡◌, ℕ, zero, suc, ◌+◌, ◌<◌, ◌≤◌, List, [], ◌∷◌, ◌++◌, length, take, Option, Some, None}
+use Rattle.std.proofs.Common.{refl, sym, ◌∙◌, ap, subst, arith, append_assoc}
 use Rattle.std.specs.Prelude.{All}
 use Rattle.std.proofs.lemmas.List.{append-nil}
 use Rattle.client_script.specs.Lines.{Line, Passed, Clients, CallLine, Order}
-use Rattle.client_script.specs.Script.{Script, Placed, AreRightLines, AreRightBelow, clients_in, calls_in, order_in, most_calls}
+use Rattle.client_script.specs.Script.{Script, Placed, AreRightLines, AreRightBelow, clients_in, calls_in, order_in}
+use Rattle.client_script.specs.Script.{most_calls}
 use Rattle.client_script.specs.Faults.{named_by, named}
 use Rattle.client_script.specs.Reading.{MayFollow, with_line}
 

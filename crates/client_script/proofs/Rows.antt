@@ -7,7 +7,8 @@ use Rattle.core_state.specs.declared.answer.Answer.TheVariants as answer
 use Rattle.core_state.specs.declared.item.Item.{Item}
 use Rattle.core_state.specs.declared.item.Item.TheVariants.{Group, Call}
 use Rattle.client_script.specs.declared.call.Fill.TheVariants.{Nothing, Pattern, Hex}
-use Rattle.client_script.specs.Lines.{Line, Clients, CallLine, split_lines, fill_bytes, pattern_byte, IsLineText, IsNumberText}
+use Rattle.client_script.specs.Lines.{Line, Clients, CallLine, split_lines, fill_bytes, pattern_byte, IsLineText}
+use Rattle.client_script.specs.Lines.{IsNumberText}
 use Rattle.client_script.proofs.Numbers.{digits_tested}
 use Rattle.client_script.specs.Script.{calls_in, handed_by}
 use Rattle.client_script.specs.Faults.{IsFaultFor}

@@ -1,5 +1,6 @@
 -- How far a text has been written.
-use Rattle.std.proofs.Common.{◌≡◌, ℕ, ◌+◌, List, [], ◌++◌, length, take, drop, Option, Some, Ok, Err, refl, sym, ◌∙◌, ap, subst, arith, append_assoc}
+use Rattle.std.proofs.Common.{◌≡◌, ℕ, ◌+◌, List, [], ◌++◌, length, take, drop, Option, Some, Ok, Err, refl, sym, ◌∙◌}
+use Rattle.std.proofs.Common.{ap, subst, arith, append_assoc}
 use Rattle.std.proofs.lemmas.List.{append-nil, drop-drop, take_all, length-drop}
 use Rattle.std.proofs.Math.Seq.{take-add}
 use Rattle.bank_trait.specs.declared.Failed.{Failed}

@@ -1,17 +1,20 @@
 -- A script that is read line by line.
-use Rattle.std.proofs.Common.{◌≡◌, ℕ, ◌+◌, ◌≤◌, List, [], ◌∷◌, ◌++◌, length, take, Option, Some, None, refl, sym, ◌∙◌, ap, subst, arith, append_assoc, inl, inr}
+use Rattle.std.proofs.Common.{◌≡◌, ℕ, ◌+◌, ◌≤◌, List, [], ◌∷◌, ◌++◌, length, take, Option, Some, None, refl, sym, ◌∙◌}
+use Rattle.std.proofs.Common.{ap, subst, arith, append_assoc, inl, inr}
 use Rattle.std.specs.Prelude.{slice_get, Ok, Err}
 use Rattle.std.specs.List.{AllZip}
 use Rattle.std.proofs.lemmas.List.{append-nil, length-append, take_at}
 use Rattle.client_script.specs.declared.refused.ParseRefused.{ParseRefused}
 use Rattle.client_script.specs.declared.refused.ParseRefused.TheVariants.{ScriptFault, Limit, NoMemory}
 use Rattle.client_script.specs.Lines.{Line, Clients, CallLine, IsLineText, split_lines}
-use Rattle.client_script.specs.Script.{Script, AreLines, AreRightLines, IsScript, BreaksAt, PassesLimit, IsOverLimit, reached_by, most_bytes, most_calls, most_clients}
+use Rattle.client_script.specs.Script.{Script, AreLines, AreRightLines, IsScript, BreaksAt, PassesLimit, IsOverLimit}
+use Rattle.client_script.specs.Script.{reached_by, most_bytes, most_calls, most_clients}
 use Rattle.client_script.specs.Faults.{named_by, IsFaultOf, IsFaultFor}
 use Rattle.client_script.specs.declared.line_fault.LineFault.TheVariants.{NoClients}
 use Rattle.client_script.specs.Reading.{MayFollow, with_line, Reaches, IsStep, IsRefusedFor}
 use Rattle.client_script.proofs.OneMeaning.{one_meaning}
-use Rattle.client_script.proofs.RightLines.{named_in, state_from, right_more, may_follow, state_more, described, undescribed, few_calls}
+use Rattle.client_script.proofs.RightLines.{named_in, state_from, right_more, may_follow, state_more, described}
+use Rattle.client_script.proofs.RightLines.{undescribed, few_calls}
 
 -- Texts have one list of meanings at most.
 pub one_list : (texts : List (List ℕ)) (lines others : List Line) → AllZip IsLineText texts lines → AllZip IsLineText texts others → lines ≡ others

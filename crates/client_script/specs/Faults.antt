@@ -1,11 +1,15 @@
 -- What is wrong with a line that breaks the grammar.
-use Rattle.std.specs.Prelude.{◌≡◌, ◌≢◌, ◌⊎◌, ℕ, zero, suc, ◌+◌, ◌*◌, ◌<◌, List, [], ◌∷◌, ◌++◌, length, All, Option, Some, None, option_map, codes, slice_index_or, ◌==◌, if◌then◌else◌}
+use Rattle.std.specs.Prelude.{◌≡◌, ◌≢◌, ◌⊎◌, ℕ, zero, suc, ◌+◌, ◌*◌, ◌<◌, List, [], ◌∷◌, ◌++◌, length, All, Option}
+use Rattle.std.specs.Prelude.{Some, None, option_map, codes, slice_index_or, ◌==◌, if◌then◌else◌}
 use Rattle.std.proofs.Common.{inl, inr}
 use Rattle.std.specs.List.{AllZip}
 use Rattle.client_script.specs.declared.call_fault.CallFault.{CallFault}
-use Rattle.client_script.specs.declared.call_fault.CallFault.TheVariants.{UnknownCall, Number, PutWords, NoBytes, TooManyBytes, HexDigits, IdAlone, WordAlone}
+use Rattle.client_script.specs.declared.call_fault.CallFault.TheVariants.{UnknownCall, Number, PutWords, NoBytes}
+use Rattle.client_script.specs.declared.call_fault.CallFault.TheVariants.{TooManyBytes, HexDigits, IdAlone, WordAlone}
 use Rattle.client_script.specs.declared.line_fault.LineFault.{LineFault}
-use Rattle.client_script.specs.declared.line_fault.LineFault.TheVariants.{CarriageReturn, StraySpace, NoClients, ClientsAgain, ClientCount, Turns, NoCall, NoSuchClient, InCall}
+use Rattle.client_script.specs.declared.line_fault.LineFault.TheVariants.{CarriageReturn, StraySpace, NoClients}
+use Rattle.client_script.specs.declared.line_fault.LineFault.TheVariants.{ClientsAgain, ClientCount, Turns, NoCall}
+use Rattle.client_script.specs.declared.line_fault.LineFault.TheVariants.{NoSuchClient, InCall}
 use Rattle.client_script.specs.Lines.{Order, IsLineText, IsNumberText, with_byte, client_letter}
 use Rattle.client_script.specs.Words.{IsNumber, IsHex}
 use Rattle.client_script.specs.Script.{Script, IsFaultAt, clients_in}

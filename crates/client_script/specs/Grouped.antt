@@ -1,5 +1,6 @@
 -- Calls that are kept by actor, in the order in which they were given.
-use Rattle.std.specs.Prelude.{◌≡◌, ℕ, List, [], ◌∷◌, ◌++◌, length, drop, map, filter, slice_index_or, ◌==◌, if◌then◌else◌, Vec}
+use Rattle.std.specs.Prelude.{◌≡◌, ℕ, List, [], ◌∷◌, ◌++◌, length, drop, map, filter, slice_index_or, ◌==◌}
+use Rattle.std.specs.Prelude.{if◌then◌else◌, Vec}
 use Rattle.std.specs.Global.{Global}
 use Rattle.client_script.specs.declared.call.ScriptCall.{ScriptCall}
 use Rattle.client_script.specs.Script.{Placed}

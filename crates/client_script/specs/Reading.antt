@@ -1,5 +1,6 @@
 -- A script as far as it is read, and what one more line makes of it.
-use Rattle.std.specs.Prelude.{◌≡◌, ◌⊎◌, ℕ, ◌+◌, ◌<◌, ◌≤◌, List, [], ◌∷◌, ◌++◌, length, Option, Some, None, option_map, Result, Ok, Err, All, ⊤}
+use Rattle.std.specs.Prelude.{◌≡◌, ◌⊎◌, ℕ, ◌+◌, ◌<◌, ◌≤◌, List, [], ◌∷◌, ◌++◌, length, Option, Some, None, option_map}
+use Rattle.std.specs.Prelude.{Result, Ok, Err, All, ⊤}
 use Rattle.core_state.specs.declared.answer.Kind.{Kind}
 use Rattle.client_script.specs.declared.call.Fill.{Fill}
 use Rattle.client_script.specs.declared.refused.ParseRefused.{ParseRefused}

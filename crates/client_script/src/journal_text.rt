@@ -2,7 +2,9 @@
 ghost use Rattle.std.specs.Prelude.{◌≡◌, ◌++◌, [], ◌∷◌, codes, decimal, OnOk, OnErr};
 ghost use Rattle.bank_trait.specs.Causes.{HasCause};
 ghost use Rattle.client_script.specs.Lines.{hex_text};
-ghost use Rattle.client_script.specs.Texts.{actor_letter as letter_of, kind_word as word_of, number_after_space, point_text, numbers_text, damaged_text, answer_text, entry_text, item_text, journal_text};
+ghost use Rattle.client_script.specs.Texts.{actor_letter as letter_of, kind_word as word_of, number_after_space};
+ghost use Rattle.client_script.specs.Texts.{point_text, numbers_text, damaged_text, answer_text, entry_text, item_text};
+ghost use Rattle.client_script.specs.Texts.{journal_text};
 ghost use Rattle.client_script.specs.Written.{IsAdded, IsPartAdded, GainsText, FailsOnlyWithFault};
 
 use crate::text_writer::TextWriter;

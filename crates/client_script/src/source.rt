@@ -2,7 +2,8 @@
 ghost use Rattle.std.specs.Prelude.{◌≡◌, ℕ, ◌<◌, ◌≤◌, List, Some, All, Ok, Err, IfOk, IfErr};
 ghost use Rattle.client_script.specs.declared.refused.ReadRefused.TheVariants.{Limit};
 ghost use Rattle.client_script.specs.Script.{Script as Asked, IsAllowed, IsScript, IsFaultAt, IsOverLimit, reached_by};
-ghost use Rattle.client_script.specs.FromSource.{IsToldWell, IsUnreadFor, IsNotReadFor, IsReadUnlessNoMemory, IsReadFaultUnlessNoMemory};
+ghost use Rattle.client_script.specs.FromSource.{IsToldWell, IsUnreadFor, IsNotReadFor, IsReadUnlessNoMemory};
+ghost use Rattle.client_script.specs.FromSource.{IsReadFaultUnlessNoMemory};
 
 use crate::reading::{MOST_SCRIPT_BYTES, parse};
 use crate::refused::ReadRefused;

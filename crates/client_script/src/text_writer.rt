@@ -1,5 +1,6 @@
 // Short pieces of text, gathered in front of a sink.
-ghost use Rattle.std.specs.Prelude.{◌≡◌, ◌⊎◌, ◌+◌, ◌*◌, ◌<◌, ◌≤◌, ℕ, List, [], Option, Bool, true, false, length, take, decimal, OnOk, OnErr};
+ghost use Rattle.std.specs.Prelude.{◌≡◌, ◌⊎◌, ◌+◌, ◌*◌, ◌<◌, ◌≤◌, ℕ, List, [], Option, Bool, true, false, length, take};
+ghost use Rattle.std.specs.Prelude.{decimal, OnOk, OnErr};
 ghost use Rattle.bank_trait.specs.Causes.{FaultCounted};
 ghost use Rattle.client_script.specs.Lines.{hex_text};
 ghost use Rattle.client_script.specs.Texts.{devices_text};

@@ -1,5 +1,6 @@
 -- What is left of a plan, as calls are passed over or made.
-use Rattle.std.proofs.Common.{◌≡◌, ℕ, ◌+◌, ◌≤◌, Bool, true, false, cond, List, [], ◌∷◌, ◌++◌, length, drop, map, refl, sym, ◌∙◌, ap, subst, Some}
+use Rattle.std.proofs.Common.{◌≡◌, ℕ, ◌+◌, ◌≤◌, Bool, true, false, cond, List, [], ◌∷◌, ◌++◌, length, drop, map, refl}
+use Rattle.std.proofs.Common.{sym, ◌∙◌, ap, subst, Some}
 use Rattle.std.specs.Prelude.{filter, flat_map, not, slice_get, ◌&&◌}
 use Rattle.std.proofs.lemmas.Bool.{false≢true}
 use Rattle.std.proofs.lemmas.List.{append-nil, drop_all, drop_more}
@@ -8,10 +9,10 @@ use Rattle.block_record.specs.Page.{page_sectors}
 use Rattle.uberblock_ring.specs.Devices.{has_device}
 use Rattle.commit_job.specs.declared.call.CommitCall.{CommitCall}
 use Rattle.commit_job.specs.declared.call.CommitCall.TheVariants.{IndexWrite, BaseSync, UberWrite, UberSync}
-use Rattle.commit_job.specs.declared.plan.Meant.TheVariants.{All, Copies}
+use Rattle.commit_job.specs.declared.plan.Meant.TheVariants.{All, Spread}
 use Rattle.commit_job.specs.declared.plan.Plan.{Plan}
 use Rattle.commit_job.specs.Plan.{is_meant, IsDueAt, left_from, whole_of}
-use Rattle.commit_job.specs.Stages.{after_next, calls_left, copies_of, device_of, index_writes, numbers_below, plan_of}
+use Rattle.commit_job.specs.Stages.{after_next, calls_left, spread_of, device_of, index_writes, numbers_below, plan_of}
 
 -- The plan from a place on is the call there and what is behind it.
 behind : (plan : Plan) (place : ℕ) (call : CommitCall) → slice_get (whole_of plan) place ≡ Some call
@@ -120,30 +121,30 @@ none_of test (n ∷ numbers) call_of each = filter_no test (call_of n) (map call
 
 -- The page's sectors go to the devices that lack it.
 writes_of : (page uber count device : ℕ) (b : Bool) → has_device page device ≡ b
-    → filter (is_meant (Copies page uber)) (index_writes count device) ≡ cond b (index_writes count device) []
+    → filter (is_meant (Spread page uber)) (index_writes count device) ≡ cond b (index_writes count device) []
 writes_of page uber count device true is =
-    all_of (is_meant (Copies page uber)) (numbers_below (page_sectors count)) (λ part. IndexWrite device part) (λ part. is)
+    all_of (is_meant (Spread page uber)) (numbers_below (page_sectors count)) (λ part. IndexWrite device part) (λ part. is)
 writes_of page uber count device false is =
-    none_of (is_meant (Copies page uber)) (numbers_below (page_sectors count)) (λ part. IndexWrite device part) (λ part. is)
+    none_of (is_meant (Spread page uber)) (numbers_below (page_sectors count)) (λ part. IndexWrite device part) (λ part. is)
 
 cond_writes : (b : Bool) (count device : ℕ) (devices : List ℕ) (calls : List CommitCall) → calls ≡ flat_map (index_writes count) devices
     → cond b (index_writes count device) [] ++ calls ≡ flat_map (index_writes count) (cond b (device ∷ devices) devices)
 cond_writes true count device devices calls is = ap (λ (rest : List CommitCall). index_writes count device ++ rest) is
 cond_writes false count device devices calls is = is
 
-meant_writes : (page uber count : ℕ) (devices : List ℕ) → filter (is_meant (Copies page uber)) (flat_map (index_writes count) devices)
+meant_writes : (page uber count : ℕ) (devices : List ℕ) → filter (is_meant (Spread page uber)) (flat_map (index_writes count) devices)
     ≡ flat_map (index_writes count) (filter (has_device page) devices)
 meant_writes page uber count [] = refl
 meant_writes page uber count (device ∷ devices) =
-    let rest = filter (is_meant (Copies page uber)) (flat_map (index_writes count) devices) in
-    filter-append (is_meant (Copies page uber)) (index_writes count device) (flat_map (index_writes count) devices)
+    let rest = filter (is_meant (Spread page uber)) (flat_map (index_writes count) devices) in
+    filter-append (is_meant (Spread page uber)) (index_writes count device) (flat_map (index_writes count) devices)
     ∙ ap (λ (calls : List CommitCall). calls ++ rest) (writes_of page uber count device (has_device page device) refl)
     ∙ cond_writes (has_device page device) count device (filter (has_device page) devices) rest (meant_writes page uber count devices)
 
--- Of the whole plan, the copies are meant.
-pub copies_meant : (devices count page uber : ℕ) → filter (is_meant (Copies page uber)) (plan_of devices count) ≡ copies_of devices count page uber
-copies_meant devices count page uber =
-    let test : CommitCall → Bool = is_meant (Copies page uber) in
+-- Of the whole plan, what brings a group to devices is meant.
+pub spread_meant : (devices count page uber : ℕ) → filter (is_meant (Spread page uber)) (plan_of devices count) ≡ spread_of devices count page uber
+spread_meant devices count page uber =
+    let test : CommitCall → Bool = is_meant (Spread page uber) in
     let numbers = numbers_below devices in
     let writes = flat_map (index_writes count) numbers in
     let bases = map (λ device. BaseSync device) numbers in

@@ -4,17 +4,17 @@ use Rattle.uberblock_ring.specs.Devices.{has_device}
 use Rattle.commit_job.specs.declared.call.CommitCall.{CommitCall}
 use Rattle.commit_job.specs.declared.call.CommitCall.TheVariants.{IndexWrite, BaseSync, UberWrite, UberSync}
 use Rattle.commit_job.specs.declared.plan.Meant.{Meant}
-use Rattle.commit_job.specs.declared.plan.Meant.TheVariants.{All, Copies}
+use Rattle.commit_job.specs.declared.plan.Meant.TheVariants.{All, Spread}
 use Rattle.commit_job.specs.declared.plan.Plan.{Plan}
 use Rattle.commit_job.specs.Stages.{device_of, plan_of}
 
 -- A call of the whole plan is to be made.
 abbrev pub is_meant : Meant → CommitCall → Bool
 is_meant All call = true
-is_meant (Copies page uber) (IndexWrite device part) = has_device page device
-is_meant (Copies page uber) (BaseSync device) = false
-is_meant (Copies page uber) (UberWrite device) = has_device uber device
-is_meant (Copies page uber) (UberSync device) = true
+is_meant (Spread page uber) (IndexWrite device part) = has_device page device
+is_meant (Spread page uber) (BaseSync device) = false
+is_meant (Spread page uber) (UberWrite device) = has_device uber device
+is_meant (Spread page uber) (UberSync device) = true
 
 -- all calls, meant or not
 abbrev pub whole_of : Plan → List CommitCall

@@ -33,10 +33,10 @@ device_of (BaseSync device) = device
 device_of (UberWrite device) = device
 device_of (UberSync device) = device
 
--- the copies over so many devices of a group with so many index entries: its page where it lacks,
+-- what brings to so many devices a group with so many index entries: its page where it lacks,
 -- its uberblock where it lacks, and a sync of each
-abbrev pub copies_of : ℕ → ℕ → ℕ → ℕ → List CommitCall
-copies_of devices count lack_page lack_uber =
+abbrev pub spread_of : ℕ → ℕ → ℕ → ℕ → List CommitCall
+spread_of devices count lack_page lack_uber =
     flat_map (index_writes count) (filter (has_device lack_page) (numbers_below devices))
     ++ map (λ device. UberWrite device)
     (filter (has_device lack_uber) (numbers_below devices))

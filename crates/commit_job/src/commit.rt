@@ -1,7 +1,7 @@
 // A commit on its way.
 ghost use Rattle.std.specs.Prelude.{◌≡◌, ◌<◌, ◌≤◌, drop, length, slice_get};
 ghost use Rattle.commit_job.specs.Plan.{left_from, whole_of, IsDueAt, IsSmall};
-ghost use Rattle.commit_job.specs.Stages.{after_next, calls_left, copies_of, plan_of, signing_of};
+ghost use Rattle.commit_job.specs.Stages.{after_next, calls_left, spread_of, plan_of, signing_of};
 
 use crate::CommitCall;
 use crate::plan::{Meant, Plan};
@@ -45,18 +45,18 @@ impl Commit {
         }
     }
 
-    /// The copies of a group that is there already: its index page to the devices that lack it, its
+    /// What brings a group that is there already: its index page to the devices that lack it, its
     /// uberblock to those that lack that, and a sync of each device.
-    pub fn copies(devices: u32, count: u32, page: DeviceSet, uber: DeviceSet) -> Commit
+    pub fn spread(devices: u32, count: u32, page: DeviceSet, uber: DeviceSet) -> Commit
         requires devices { devices ≤ 64 }
         requires count { count ≤ 512 }
-        ensures value { result ≡ copies_of devices count page uber }
+        ensures value { result ≡ spread_of devices count page uber }
     {
         Commit {
             plan: Plan {
                 devices,
                 count,
-                meant: Meant::Copies { page, uber },
+                meant: Meant::Spread { page, uber },
             },
             place: 0,
         }

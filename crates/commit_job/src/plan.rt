@@ -9,11 +9,11 @@ use crate::CommitCall;
 use block_record::page_sectors;
 use uberblock_ring::DeviceSet;
 
-/// Which calls of the whole plan are to be made: all, or the copies to the devices that lack them.
+/// Which calls of the whole plan are to be made: all, or those that bring a group to the devices that lack it.
 #[derive(Clone, Copy, Debug, PartialEq, Eq)]
 pub enum Meant {
     All,
-    Copies { page: DeviceSet, uber: DeviceSet },
+    Spread { page: DeviceSet, uber: DeviceSet },
 }
 
 /// The calls over `devices` devices of a group with `count` index entries.
@@ -69,7 +69,7 @@ impl Plan {
     {
         let is_meant = match self.meant {
             Meant::All => true,
-            Meant::Copies { page, uber } => match call {
+            Meant::Spread { page, uber } => match call {
                 CommitCall::IndexWrite { device, .. } => page.has(device),
                 CommitCall::BaseSync { .. } => false,
                 CommitCall::UberWrite { device } => uber.has(device),

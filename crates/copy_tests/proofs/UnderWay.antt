@@ -7,7 +7,7 @@ use Rattle.core_state.specs.Committing.{point_of}
 use Rattle.core_state.specs.declared.answer.Answer.{Answer}
 use Rattle.core_state.specs.declared.answer.Answer.TheVariants as answer
 use Rattle.core_state.specs.declared.answer.Kind.{Kind}
-use Rattle.core_client.specs.Outs.{OnlyFailedGoOut}
+use Rattle.core_state.specs.Outs.{OnlyFailedGoOut}
 use Rattle.core_turns.specs.declared.copying.CopyRun.{CopyRun}
 use Rattle.core_turns.specs.declared.getting.GetRun.{GetRun}
 use Rattle.core_turns.specs.declared.putting.PutRun.{PutRun}
@@ -17,8 +17,8 @@ use Rattle.core_turns.specs.Core.{Core, CoreState, HasBankOf}
 use Rattle.core_turns.specs.Copying.{IsJobOf}
 use Rattle.core_turns.specs.Getting.{BeginsGet, ReadsTurn}
 use Rattle.core_turns.specs.Putting.{EndsPut}
-use Rattle.core_turns.proofs.Frames.{job_of_stays, widths_out}
-use Rattle.core_turns.proofs.GetTurns.{begins_holds, begins_rest}
+use Rattle.core_turns.proofs.state.Frames.{job_of_stays, widths_out}
+use Rattle.core_turns.proofs.read.Turns.{begins_holds, begins_rest}
 
 -- The bank has the pool's devices in use behind the last turn of a put.
 pub put_end_bank : (old new : Core) (run : PutRun) (turn : Turn PutRun) (disk : Disk) → EndsPut old run new turn

@@ -4,9 +4,7 @@ ghost use Rattle.core_copy.specs.JobRun.{HoldsRead};
 
 use bank_mem::MemBank;
 use bank_trait::Bank;
-use core_copy::JobRun;
-use job_copy::{due_job, job_front};
-use mark_advance::front_behind;
+use core_copy::{JobRun, due_job, front_behind};
 use mark_choice::choose;
 use range_locks::Locks;
 use reflow_copier::Job;
@@ -31,6 +29,7 @@ pub fn at_mark(mark: u64, state: State) -> Reflow {
 }
 
 /// The job that is due, before its first call.
+#[tactic(auto, using(core_copy::proofs::Fronts::job_some))]
 pub fn begun(rt: &impl Abort, alloc: Global, way: Way) -> Result<Option<JobRun>, Fail>
     ensures to { IfOk result (λ due. IfSome due (λ run. run.reflow.to ≡ 4)) }
     ensures rows { IfOk result (λ due. IfSome due (λ run. run.reflow.rows ≡ 64)) }
@@ -39,7 +38,6 @@ pub fn begun(rt: &impl Abort, alloc: Global, way: Way) -> Result<Option<JobRun>,
     let (reflow, done) = way;
     assert!(rt; reflow.from == 3 && reflow.to == 4 && reflow.rows == 64);
     assert!(rt; reflow.is_right() && reflow.mark < 1 << 54 && done < 1 << 54);
-    job_front();
     match due_job(&reflow, done) {
         Some(job) => Ok(Some(JobRun::new(alloc, &reflow, job)?)),
         None => Ok(None),

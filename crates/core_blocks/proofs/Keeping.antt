@@ -4,7 +4,8 @@ use Rattle.std.specs.Prelude.{Contains, Option, nat_lt}
 use Rattle.std.proofs.lemmas.Bool.{lt-ltb}
 use Rattle.width_map.specs.declared.birth.Birth.{Birth}
 use Rattle.range_locks.specs.declared.hold.Hold.{Hold}
-use Rattle.space_alloc.specs.Space.{Run, HeldRun, Space, IsIn, IsTaken, IsFreeRun, IsTaking, IsDropping, IsHolding, after_group}
+use Rattle.space_alloc.specs.Space.{Run, HeldRun, Space, IsIn, IsTaken, IsFreeRun, IsTaking, IsDropping, IsHolding}
+use Rattle.space_alloc.specs.Space.{after_group}
 use Rattle.block_record.specs.declared.entry.IndexEntry.{IndexEntry}
 use Rattle.block_record.specs.Page.{IsIndex}
 use Rattle.core_blocks.specs.Blocks.{Blocks, AreInStep, run_of}

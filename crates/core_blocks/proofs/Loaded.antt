@@ -1,5 +1,6 @@
 -- A table into which the entries of an index are put, one after the other, has that index.
-use Rattle.std.proofs.Common.{◌≡◌, ◌≢◌, ℕ, suc, ◌+◌, ◌<◌, ◌≤◌, List, [], ◌∷◌, ◌++◌, Bool, true, false, length, take, drop, get_or, refl, sym, ◌∙◌, ap, subst, arith, ⊎_elim, Some, None, if◌then◌else◌, ◌==◌}
+use Rattle.std.proofs.Common.{◌≡◌, ◌≢◌, ℕ, suc, ◌+◌, ◌<◌, ◌≤◌, List, [], ◌∷◌, ◌++◌, Bool, true, false, length, take}
+use Rattle.std.proofs.Common.{drop, get_or, refl, sym, ◌∙◌, ap, subst, arith, ⊎_elim, Some, None, if◌then◌else◌, ◌==◌}
 use Rattle.std.specs.Prelude.{All, Contains, Option, is_some, nat_eq}
 use Rattle.std.specs.Set.{distinct_count}
 use Rattle.std.specs.Option.{option_or}

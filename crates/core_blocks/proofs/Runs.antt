@@ -3,10 +3,12 @@ use Rattle.std.proofs.Common.{◌≡◌, ◌⊎◌, ℕ, ◌+◌, ◌-◌, ◌<�
 use Rattle.std.specs.Prelude.{AllPairs, Contains, nat_lt}
 use Rattle.std.proofs.lemmas.Bool.{cases_lt}
 use Rattle.range_locks.specs.declared.hold.Hold.{Hold}
-use Rattle.space_alloc.specs.Space.{Run, HeldRun, Space, IsIn, IsFreeRun, Gains, IsTaking, IsDropping, IsHolding, after_group}
+use Rattle.space_alloc.specs.Space.{Run, HeldRun, Space, IsIn, IsFreeRun, Gains, IsTaking, IsDropping, IsHolding}
+use Rattle.space_alloc.specs.Space.{after_group}
 use Rattle.range_locks.proofs.Pairs.{all_pairs_filter}
 use Rattle.core_blocks.specs.Runs.{AreClear, AreSpread, IsInside, held_sectors}
-use Rattle.core_blocks.proofs.Lists.{gains_old, gains_cases, gains_item, filter_was, pairs_gain, pairs_lose, pairs_beside}
+use Rattle.core_blocks.proofs.Lists.{gains_old, gains_cases, gains_item, filter_was, pairs_gain, pairs_lose}
+use Rattle.core_blocks.proofs.Lists.{pairs_beside}
 
 pub clear_turned : (one other : Run) → AreClear one other → AreClear other one
 clear_turned one other clear sector in_other in_one = clear sector in_one in_other

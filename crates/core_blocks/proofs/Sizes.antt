@@ -1,6 +1,7 @@
 -- A block takes no more sectors where its rows are wider.
 use Rattle.std.proofs.Common.{◌≡◌, ⊎_elim, ℕ, ◌+◌, ◌*◌, ◌/◌, ◌<◌, ◌≤◌, ap, arith, ◌∙◌}
-use Rattle.std.proofs.Math.Nat.{mod-lt, mul-add, mul-le-mul_left, mul-le-mul_right, le_of_mul-le-mul_left, lt_of_mul-lt-mul_left, div-mul-le_self}
+use Rattle.std.proofs.Math.Nat.{mod-lt, mul-add, mul-le-mul_left, mul-le-mul_right, le_of_mul-le-mul_left}
+use Rattle.std.proofs.Math.Nat.{lt_of_mul-lt-mul_left, div-mul-le_self}
 use Rattle.std.proofs.lemmas.Bool.{cases_lt}
 use Rattle.std.proofs.lemmas.Nat.{le-div}
 use Rattle.row_layout.specs.Layout.{Layout, content_columns, whole_rows, left_over, rows_of, total_of}

@@ -13,7 +13,8 @@ use Rattle.core_blocks.specs.Runs.{AreClear, AreSpread, IsInside}
 use Rattle.core_blocks.specs.Blocks.{Blocks, AreInStep, IsListed, IsStanding, IsUnderWay, put_run, range_of, run_of}
 use Rattle.core_blocks.specs.Puts.{HoldsBack}
 use Rattle.core_blocks.proofs.Lists.{gains_old}
-use Rattle.core_blocks.proofs.Runs.{clear_turned, free_of_taken, spread_taking, spread_dropping, spread_holding, spread_after, stays_taken}
+use Rattle.core_blocks.proofs.Runs.{clear_turned, free_of_taken, spread_taking, spread_dropping, spread_holding}
+use Rattle.core_blocks.proofs.Runs.{spread_after, stays_taken}
 use Rattle.core_blocks.proofs.Listed.{found_id, found_listed, put_cases, left_cases}
 
 module _ (parity : ℕ) (births : List Birth) where

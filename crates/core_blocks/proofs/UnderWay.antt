@@ -1,5 +1,6 @@
 -- Which puts are under way over each step.
-use Rattle.std.proofs.Common.{◌≡◌, ℕ, ◌+◌, ◌<◌, Bool, true, false, cond, List, [], ◌∷◌, ◌++◌, append-nil, ◌==◌, zero-add, refl, sym, ◌∙◌, ap, subst, arith, inl, inr, ⊎_elim, Some, None, if◌then◌else◌}
+use Rattle.std.proofs.Common.{◌≡◌, ℕ, ◌+◌, ◌<◌, Bool, true, false, cond, List, [], ◌∷◌, ◌++◌, append-nil, ◌==◌}
+use Rattle.std.proofs.Common.{zero-add, refl, sym, ◌∙◌, ap, subst, arith, inl, inr, ⊎_elim, Some, None, if◌then◌else◌}
 use Rattle.std.specs.Prelude.{Contains, Option, count_by, nat_eq, ◌||◌}
 use Rattle.std.specs.Set.{is_member}
 use Rattle.std.specs.List.Sorted.{IsPermutation}
@@ -14,10 +15,12 @@ use Rattle.block_record.specs.Page.{IsIndex}
 use Rattle.block_table.specs.Table.{Table, ChangesOnly, entry_of, without_one}
 use Rattle.core_blocks.specs.declared.range.PutRange.{PutRange}
 use Rattle.core_blocks.specs.Runs.{AreClear}
-use Rattle.core_blocks.specs.Blocks.{AreInStep, AreUnderWay, IsListed, IsUnderWay, put_run, puts_of, range_of, run_of, times_reserved}
+use Rattle.core_blocks.specs.Blocks.{AreInStep, AreUnderWay, IsListed, IsUnderWay, put_run, puts_of, range_of, run_of}
+use Rattle.core_blocks.specs.Blocks.{times_reserved}
 use Rattle.core_blocks.specs.Loading.{IsTakenBy}
 use Rattle.core_blocks.specs.Puts.{HoldsBack}
-use Rattle.core_blocks.proofs.Lists.{gains_cases, gains_item, gains_old, none_listed, pairs_beside, pairs_gain, pairs_lose, listed_cases}
+use Rattle.core_blocks.proofs.Lists.{gains_cases, gains_item, gains_old, none_listed, pairs_beside, pairs_gain}
+use Rattle.core_blocks.proofs.Lists.{pairs_lose, listed_cases}
 use Rattle.core_blocks.proofs.Listed.{among_listed, put_cases, left_cases}
 use Rattle.core_blocks.proofs.Runs.{clear_turned, free_of_taken, not_itself, stays_taken}
 use Rattle.core_blocks.proofs.Steps.{with_parts, gone_stands, held_taken, put_clear_of_gone, same_listed}

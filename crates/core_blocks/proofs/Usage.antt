@@ -1,5 +1,6 @@
 -- A space that is full is tight, and what each step adds to what is in use.
-use Rattle.std.proofs.Common.{◌≡◌, ◌⊎◌, inl, inr, ⊎_elim, ℕ, zero, suc, ◌+◌, ◌-◌, ◌*◌, ◌<◌, ◌≤◌, List, [], ◌∷◌, length, Option, Some, None, refl, ◌∙◌, ap, subst, arith}
+use Rattle.std.proofs.Common.{◌≡◌, ◌⊎◌, inl, inr, ⊎_elim, ℕ, zero, suc, ◌+◌, ◌-◌, ◌*◌, ◌<◌, ◌≤◌, List, [], ◌∷◌, length}
+use Rattle.std.proofs.Common.{Option, Some, None, refl, ◌∙◌, ap, subst, arith}
 use Rattle.std.specs.Prelude.{AllPairs, Contains, map, sum_by}
 use Rattle.std.proofs.Math.Nat.{add-mul, mul-le-mul_right}
 use Rattle.std.proofs.lemmas.Bool.{cases_lt}
@@ -16,7 +17,8 @@ use Rattle.core_blocks.specs.Blocks.{run_of}
 use Rattle.core_blocks.specs.Loading.{IsTakenBy}
 use Rattle.core_blocks.specs.Puts.{HoldsBack}
 use Rattle.core_blocks.specs.Usage.{runs_in_use, sectors_in, UsesAtMost, AddsAtMost, IsTight}
-use Rattle.core_blocks.proofs.Lists.{first_listed, rest_listed, listed_cases, none_listed, gains_cases, head_pairs, tail_pairs}
+use Rattle.core_blocks.proofs.Lists.{first_listed, rest_listed, listed_cases, none_listed, gains_cases, head_pairs}
+use Rattle.core_blocks.proofs.Lists.{tail_pairs}
 use Rattle.core_blocks.proofs.Runs.{clear_turned, not_itself}
 
 -- One of the runs has a sector of this range.

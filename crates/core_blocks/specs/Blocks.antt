@@ -1,5 +1,6 @@
 -- The blocks of a pool and its free sectors, and what keeps them in step.
-use Rattle.std.specs.Prelude.{◌≡◌, ◌≢◌, ◌⊎◌, ℕ, ◌<◌, ◌≤◌, ◌^◌, true, nat_eq, ◌==◌, List, count_by, Some, AllPairs, Contains}
+use Rattle.std.specs.Prelude.{◌≡◌, ◌≢◌, ◌⊎◌, ℕ, ◌<◌, ◌≤◌, ◌^◌, true, nat_eq, ◌==◌, List, count_by, Some, AllPairs}
+use Rattle.std.specs.Prelude.{Contains}
 use Rattle.std.specs.Set.{is_member}
 use Rattle.width_map.specs.declared.birth.Birth.{Birth}
 use Rattle.width_map.specs.Births.{width_of_birth}

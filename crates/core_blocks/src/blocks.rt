@@ -1,5 +1,6 @@
 // The blocks of a pool and its free sectors.
-ghost use Rattle.std.specs.Prelude.{◌≡◌, ◌↔◌, ◌+◌, ◌≤◌, ◌<◌, ◌^◌, ℕ, ◌++◌, ◌∷◌, [], List, Some, None, All, Contains, IfOk, IfErr, IfSome, IsErrOf, IsTrue, OnErr, length};
+ghost use Rattle.std.specs.Prelude.{◌≡◌, ◌↔◌, ◌+◌, ◌≤◌, ◌<◌, ◌^◌, ℕ, ◌++◌, ◌∷◌, [], List, Some, None, All, Contains};
+ghost use Rattle.std.specs.Prelude.{IfOk, IfErr, IfSome, IsErrOf, IsTrue, OnErr, length};
 ghost use Rattle.std.specs.Option.{option_copied};
 ghost use Rattle.width_map.specs.Births.{last_width};
 ghost use Rattle.reflow_mark.specs.Reflow.{sectors_of};
@@ -10,7 +11,8 @@ ghost use Rattle.block_table.specs.Table.{ChangesOnly, IsFull, IsTable, entry_of
 ghost use Rattle.space_alloc.specs.Space.{after_group, Gains, IsDropping};
 ghost use Rattle.row_layout.specs.Layout.{allocated_of};
 ghost use Rattle.core_state.specs.Index.{AreApart, IsFitting, block_end};
-ghost use Rattle.core_blocks.specs.Blocks.{AreInStep, AreUnderWay, HasLayouts, IsListed, IsStanding, IsUnderWay, range_of, put_run};
+ghost use Rattle.core_blocks.specs.Blocks.{AreInStep, AreUnderWay, HasLayouts, IsListed, IsStanding, IsUnderWay};
+ghost use Rattle.core_blocks.specs.Blocks.{range_of, put_run};
 ghost use Rattle.core_blocks.specs.Growing.{grown_by};
 ghost use Rattle.core_blocks.specs.declared.range.PutRange.{PutRange};
 ghost use Rattle.core_blocks.specs.Puts.{BeginsPut, HoldsBack, IsAsBefore, IsPutCause, IsRangeFor, sectors_taken};

@@ -1,5 +1,6 @@
 -- A block that is written or read one device call at a time.
-use Rattle.std.proofs.Common.{◌≡◌, ◌≢◌, ◌⊎◌, inl, inr, ⊎_elim, ℕ, ◌+◌, ◌<◌, ◌≤◌, List, length, Bool, true, false, Option, Some, None, refl, sym, ◌∙◌, ap, subst, arith}
+use Rattle.std.proofs.Common.{◌≡◌, ◌≢◌, ◌⊎◌, inl, inr, ⊎_elim, ℕ, ◌+◌, ◌<◌, ◌≤◌, List, length, Bool, true, false}
+use Rattle.std.proofs.Common.{Option, Some, None, refl, sym, ◌∙◌, ap, subst, arith}
 use Rattle.std.specs.Prelude.{◌&&◌, nat_lt, slice_get, Contains, IsSome, if◌then◌else◌}
 use Rattle.std.proofs.lemmas.Bool.{cases_eq, cases_lt, true≢false}
 use Rattle.std.proofs.lemmas.Bool.Decides.{nat_tests}
@@ -18,13 +19,16 @@ use Rattle.uberblock_ring.specs.Devices.{has_device, count_of, IsWithin}
 use Rattle.core_state.specs.Committing.{Point}
 use Rattle.core_client.specs.declared.columns_read.ColumnsRead.{ColumnsRead}
 use Rattle.core_client.specs.Pool.{IsInPool, IsRightBlock}
-use Rattle.core_client.specs.Reading.{spot_of, IsGot}
+use Rattle.core_state.specs.SpotReads.{IsGot}
+use Rattle.core_client.specs.Reading.{spot_of}
 use Rattle.core_client.specs.Got.{got_of, has_lost, HasLostFew, IsShapedAs}
-use Rattle.core_client.specs.BlockTurns.{BlockWrite, IsWrittenSoFar, BlockRead, IsAtColumn, IsPassedColumn, IsReadBegun, GoesOneOn, ReadsColumn, IsColumnOf, IsReadSoFar}
+use Rattle.core_client.specs.BlockTurns.{BlockWrite, IsWrittenSoFar, BlockRead, IsAtColumn, IsPassedColumn, IsReadBegun}
+use Rattle.core_client.specs.BlockTurns.{GoesOneOn, ReadsColumn, IsColumnOf, IsReadSoFar}
 use Rattle.core_client.specs.Writing.{bytes_of, IsMade, IsPassedOrMade, IsPlanOf}
-use Rattle.core_client.proofs.Outs.{was_used, went_well, outs_called}
+use Rattle.core_state.proofs.Outs.{was_used, went_well, outs_called}
 use Rattle.core_client.proofs.Written.{IsNumber, plan_agrees}
-use Rattle.core_client.proofs.Gotten.{has_bytes, got_by_step, outs_by_step, parity_in_row}
+use Rattle.core_state.proofs.SpotReads.{got_by_step, outs_by_step}
+use Rattle.core_client.proofs.Gotten.{has_bytes, parity_in_row}
 use Rattle.core_client.proofs.LeftOver.{missing_bytes, told_there}
 use Rattle.core_client.proofs.Enough.{lost_few_out}
 

@@ -14,7 +14,7 @@ use Rattle.shadow_write.proofs.Whole.{are_required}
 use Rattle.reconstruct.specs.Columns.{column_bytes}
 use Rattle.core_state.specs.Whole.{Cell, IsCell}
 use Rattle.core_client.specs.Pool.{IsInPool}
-use Rattle.reflow_band.proofs.Within.{scratch_within}
+use Rattle.shadow_write.proofs.Within.{scratch_within}
 use Rattle.core_client.proofs.Places.{widths_of, in_pool}
 use Rattle.core_client.proofs.Stored.{place_on_pool}
 use Rattle.core_client.proofs.Spots.{IsOnPool, on_pool}

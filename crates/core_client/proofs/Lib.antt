@@ -1,4 +1,3 @@
-pub mod Outs
 pub mod Below
 pub mod Places
 pub mod Written

@@ -19,9 +19,9 @@ use Rattle.row_layout.proofs.Parts.{columns_few, row_few}
 use Rattle.row_layout.proofs.Laws.{inside}
 use Rattle.shadow_write.specs.Required.{IsAt, NeedsScratch, NeedsNew, IsRequiredPlace, IsFrontIn}
 use Rattle.core_client.specs.Pool.{IsInPool}
-use Rattle.reflow_band.specs.Band.{IsFrontOf}
-use Rattle.reflow_band.proofs.Apart.{same_place, one_sector as same_at}
-use Rattle.reflow_band.proofs.Within.{scratch_within}
+use Rattle.shadow_write.specs.Band.{IsFrontOf}
+use Rattle.shadow_write.proofs.Apart.{same_place, one_sector as same_at}
+use Rattle.shadow_write.proofs.Within.{scratch_within}
 
 -- The scratch rows end before the data rows begin.
 scratch_apart : (to sector : ℕ) (place : Place) (device device_sector : ℕ) → 0 < to → sector < 32 * to

@@ -1,5 +1,6 @@
 -- Where a column is read is one of its required places, and on the bank.
-use Rattle.std.proofs.Common.{◌≡◌, ◌⊎◌, inl, inr, ⊎_elim, ℕ, ◌+◌, ◌/◌, ◌<◌, ◌≤◌, Bool, true, false, refl, sym, ◌∙◌, subst, arith}
+use Rattle.std.proofs.Common.{◌≡◌, ◌⊎◌, inl, inr, ⊎_elim, ℕ, ◌+◌, ◌/◌, ◌<◌, ◌≤◌, Bool, true, false, refl, sym, ◌∙◌}
+use Rattle.std.proofs.Common.{subst, arith}
 use Rattle.std.specs.Prelude.{nat_le, if◌then◌else◌}
 use Rattle.std.proofs.Math.Nat.{div-lt_iff_lt-mul, mul-le-mul_left, mod-lt}
 use Rattle.std.proofs.lemmas.Bool.{cases_lt}
@@ -15,7 +16,7 @@ use Rattle.reflow_mark.specs.Standing.{NeedsOld, stand_of}
 use Rattle.scratch_area.specs.Scratch.{old_place, new_place, scratch_place, first_scratch_sector}
 use Rattle.row_layout.specs.Layout.{Layout, IsColumn, columns_in, sector_of, end_of}
 use Rattle.shadow_write.specs.Required.{IsAt, NeedsScratch, NeedsNew, IsRequiredPlace, IsFrontIn}
-use Rattle.core_client.specs.declared.spot.Spot.{Spot}
+use Rattle.core_state.specs.declared.spot.Spot.{Spot}
 use Rattle.core_client.specs.Pool.{IsInPool}
 use Rattle.core_client.specs.Reading.{spot_in, spot_of}
 use Rattle.core_client.proofs.Places.{widths_of, in_pool}

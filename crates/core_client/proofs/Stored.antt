@@ -15,7 +15,8 @@ use Rattle.shadow_write.specs.declared.write.Write.{Write}
 use Rattle.shadow_write.specs.Required.{IsAt, NeedsScratch, NeedsNew, IsRequiredPlace}
 use Rattle.shadow_write.specs.Writes.{AreRequired}
 use Rattle.reconstruct.specs.Rows.{Rows, IsShaped}
-use Rattle.core_client.specs.Pool.{IsInPool, HasPool}
+use Rattle.core_state.specs.PoolBank.{HasPool}
+use Rattle.core_client.specs.Pool.{IsInPool}
 use Rattle.core_client.specs.Reading.{spot_in}
 use Rattle.core_client.specs.Writing.{IsOnBank}
 use Rattle.core_client.proofs.Places.{widths_of, in_pool}

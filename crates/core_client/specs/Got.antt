@@ -6,8 +6,8 @@ use Rattle.reconstruct.specs.Rows.{IsShaped, column_at}
 use Rattle.reconstruct.specs.Lost.{HasTooFew}
 use Rattle.core_state.specs.Committing.{Point}
 use Rattle.core_client.specs.declared.columns_read.ColumnsRead.{ColumnsRead}
-use Rattle.core_client.specs.declared.spot.Spot.{Spot}
-use Rattle.core_client.specs.Reading.{IsPassedOrRead}
+use Rattle.core_state.specs.declared.spot.Spot.{Spot}
+use Rattle.core_state.specs.SpotReads.{IsPassedOrRead}
 
 -- The reading has not got this column.
 abbrev pub has_lost : ColumnsRead → ℕ → ℕ → Bool

@@ -1,4 +1,3 @@
-pub mod Outs
 pub mod Pool
 pub mod Writing
 pub mod Reading

@@ -10,7 +10,7 @@ use Rattle.reconstruct.specs.Rows.{Rows, column_at, IsEncoded}
 use Rattle.uberblock_ring.specs.Devices.{has_device}
 use Rattle.core_state.specs.Committing.{Point, Called}
 use Rattle.core_client.specs.Pool.{IsInPool}
-use Rattle.reflow_band.specs.Band.{IsFrontOf}
+use Rattle.shadow_write.specs.Band.{IsFrontOf}
 
 -- The write's column is one of the rows', and its place is on the bank, if its device isn't out.
 pub record IsOnBank (rows : Rows) (out : ℕ) (disk : Disk) (write : Write) : Type 0 where

@@ -2,9 +2,10 @@
 ghost use Rattle.std.specs.Prelude.{◌≡◌, ◌+◌, ◌^◌, ◌<◌, ◌↔◌, IfOk, IsTrue, IfSome, false, ℕ, ◌≤◌};
 ghost use Rattle.bank_trait.specs.Disk.{Unchanged};
 ghost use Rattle.row_layout.specs.Layout.{IsLayout, rows_of};
-ghost use Rattle.core_client.specs.Outs.{OnlyFailedGoOut};
+ghost use Rattle.core_state.specs.Outs.{OnlyFailedGoOut};
 ghost use Rattle.core_state.specs.Committing.{point_of};
-ghost use Rattle.core_client.specs.Pool.{IsInPool, HasPool};
+ghost use Rattle.core_state.specs.PoolBank.{HasPool};
+ghost use Rattle.core_client.specs.Pool.{IsInPool};
 ghost use Rattle.core_client.specs.Got.{IsShapedAs};
 ghost use Rattle.core_client.specs.BlockTurns.{IsAtColumn, IsReadBegun, ReadsColumn};
 

@@ -5,7 +5,7 @@ ghost use Rattle.shadow_write.specs.declared.write.Write.{Write as WriteOf};
 ghost use Rattle.reconstruct.specs.Rows.{sectors_for};
 ghost use Rattle.core_state.specs.Committing.{point_of};
 ghost use Rattle.core_client.specs.Pool.{IsInPool};
-ghost use Rattle.reflow_band.specs.Band.{IsFrontOf};
+ghost use Rattle.shadow_write.specs.Band.{IsFrontOf};
 ghost use Rattle.core_client.specs.Writing.{IsOnBank, IsPassedOrMade, IsPlanOf};
 
 use crate::write_column;

@@ -4,8 +4,9 @@ ghost use Rattle.bank_trait.specs.Disk.{Unchanged};
 ghost use Rattle.row_layout.specs.Layout.{IsColumn};
 ghost use Rattle.core_state.specs.Committing.{point_of};
 ghost use Rattle.core_client.specs.Got.{HasReadColumn, has_lost};
-ghost use Rattle.core_client.specs.Outs.{OnlyFailedGoOut};
-ghost use Rattle.core_client.specs.Pool.{HasPool, IsInPool};
+ghost use Rattle.core_state.specs.Outs.{OnlyFailedGoOut};
+ghost use Rattle.core_state.specs.PoolBank.{HasPool};
+ghost use Rattle.core_client.specs.Pool.{IsInPool};
 ghost use Rattle.core_client.specs.Reading.{spot_of};
 ghost use Rattle.core_client.specs.Shared.{IsOwn, columns_had};
 

@@ -1,13 +1,15 @@
 // A block's columns as they were read.
-ghost use Rattle.std.specs.Prelude.{◌≡◌, ◌≢◌, ◌⊎◌, ℕ, ◌<◌, ◌≤◌, IfOk, Some, IsTrue, length, false, true, ◌^◌, ◌↔◌, EachIndex, slice_index};
+ghost use Rattle.std.specs.Prelude.{◌≡◌, ◌≢◌, ◌⊎◌, ℕ, ◌<◌, ◌≤◌, IfOk, Some, IsTrue, length, false, true, ◌^◌, ◌↔◌};
+ghost use Rattle.std.specs.Prelude.{EachIndex, slice_index};
 ghost use Rattle.bank_trait.specs.Disk.{Unchanged};
 ghost use Rattle.reconstruct.specs.Columns.{zero_sector};
 ghost use Rattle.row_layout.specs.Layout.{IsColumn, columns_of, rows_of};
 ghost use Rattle.uberblock_ring.specs.Devices.{with_device};
 ghost use Rattle.core_state.specs.Committing.{point_of};
 ghost use Rattle.core_client.specs.Got.{got_of, has_lost, HasReadColumn, IsShapedAs};
-ghost use Rattle.core_client.specs.Outs.{OnlyFailedGoOut};
-ghost use Rattle.core_client.specs.Pool.{HasPool, IsInPool};
+ghost use Rattle.core_state.specs.Outs.{OnlyFailedGoOut};
+ghost use Rattle.core_state.specs.PoolBank.{HasPool};
+ghost use Rattle.core_client.specs.Pool.{IsInPool};
 ghost use Rattle.core_client.specs.Reading.{spot_of};
 
 use crate::read_column;

@@ -2,7 +2,7 @@
 //! right, and read where their rows stand.
 //!
 //! A device whose call fails is out from then on, and one that is out is passed over. Read
-//! `specs/Outs.antt`, then `specs/Writing.antt`, `specs/Reading.antt` and `specs/Got.antt`, and for a
+//! `specs/Writing.antt`, `specs/Reading.antt` and `specs/Got.antt`, and for a
 //! block that is written or read one call at a time `specs/BlockTurns.antt`. Stands on `core_state`,
 //! `shadow_write` and `reconstruct`.
 #![tactic(auto)]
@@ -15,7 +15,6 @@ mod fetching;
 mod reading;
 mod refused;
 mod shared_columns;
-mod spot;
 mod standing;
 mod writing;
 
@@ -26,6 +25,5 @@ pub use fetching::checked_bytes;
 pub use reading::read_column;
 pub use refused::FetchRefused;
 pub use shared_columns::SharedColumns;
-pub use spot::Spot;
 pub use standing::spot_of;
 pub use writing::write_column;

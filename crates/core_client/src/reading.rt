@@ -3,13 +3,16 @@ ghost use Rattle.std.specs.Prelude.{◌≡◌, ℕ, ◌^◌, ◌<◌, false, ◌
 ghost use Rattle.bank_trait.specs.Disk.{Unchanged};
 ghost use Rattle.row_layout.specs.Layout.{IsColumn};
 ghost use Rattle.uberblock_ring.specs.Devices.{has_device};
-ghost use Rattle.core_client.specs.Outs.{OnlyFailedGoOut};
+ghost use Rattle.core_state.specs.Outs.{OnlyFailedGoOut};
 ghost use Rattle.core_state.specs.Committing.{point_of};
-ghost use Rattle.core_client.specs.Pool.{IsInPool, HasPool};
-ghost use Rattle.core_client.specs.Reading.{given_by, spot_of, IsGot, IsPassedOrRead};
+ghost use Rattle.core_state.specs.PoolBank.{HasPool};
+ghost use Rattle.core_client.specs.Pool.{IsInPool};
+ghost use Rattle.core_state.specs.SpotReads.{given_by, IsGot, IsPassedOrRead};
+ghost use Rattle.core_client.specs.Reading.{spot_of};
 
-use crate::{Spot, spot_of};
+use crate::spot_of;
 use bank_trait::{Bank, Failed};
+use core_state::Spot;
 use reflow_mark::Reflow;
 use row_layout::Layout;
 use uberblock_ring::DeviceSet;

@@ -4,9 +4,10 @@ ghost use Rattle.width_map.specs.Place.{first_data_sector};
 ghost use Rattle.row_layout.specs.Layout.{IsColumn, end_of, sector_of};
 ghost use Rattle.shadow_write.specs.Required.{IsFrontIn, IsRequiredPlace};
 ghost use Rattle.core_client.specs.Pool.{IsInPool};
-ghost use Rattle.core_client.specs.Reading.{spot_at, spot_in, spot_of};
+ghost use Rattle.core_state.specs.SpotReads.{spot_at};
+ghost use Rattle.core_client.specs.Reading.{spot_in, spot_of};
 
-use crate::Spot;
+use core_state::Spot;
 use reflow_mark::{Reflow, Stand};
 use row_layout::Layout;
 use scratch_area::{FIRST_SCRATCH_SECTOR, new_place, old_place, scratch_place};

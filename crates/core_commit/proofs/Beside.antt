@@ -1,5 +1,6 @@
 -- What is known of a commit between two of its steps, and that calls beside it keep that.
-use Rattle.std.proofs.Common.{◌≡◌, ◌≢◌, ◌⊎◌, inl, inr, ⊎_elim, ℕ, ◌+◌, ◌<◌, List, [], ◌∷◌, Bool, true, false, refl, sym, ◌∙◌, ap, subst, arith, ◌≤◌}
+use Rattle.std.proofs.Common.{◌≡◌, ◌≢◌, ◌⊎◌, inl, inr, ⊎_elim, ℕ, ◌+◌, ◌<◌, List, [], ◌∷◌, Bool, true, false, refl, sym}
+use Rattle.std.proofs.Common.{◌∙◌, ap, subst, arith, ◌≤◌}
 use Rattle.std.specs.Prelude.{Contains}
 use Rattle.bank_trait.specs.Disk.{Lawful, Unchanged}
 use Rattle.bank_trait.specs.Regions.{TouchesOnly}

@@ -1,5 +1,6 @@
 -- What a commit that makes one call a step keeps, from its begin to its end.
-use Rattle.std.proofs.Common.{◌≡◌, ◌≢◌, ◌⊎◌, inl, inr, ⊎_elim, ℕ, ◌+◌, ◌*◌, ◌<◌, ◌≤◌, List, [], ◌∷◌, take, drop, Some, refl, sym, ◌∙◌, ap, subst, arith, append_assoc}
+use Rattle.std.proofs.Common.{◌≡◌, ◌≢◌, ◌⊎◌, inl, inr, ⊎_elim, ℕ, ◌+◌, ◌*◌, ◌<◌, ◌≤◌, List, [], ◌∷◌, take, drop, Some}
+use Rattle.std.proofs.Common.{refl, sym, ◌∙◌, ap, subst, arith, append_assoc}
 use Rattle.std.specs.Prelude.{Contains, slice_get}
 use Rattle.std.proofs.lemmas.List.{append-nil}
 use Rattle.bank_trait.specs.Disk.{Wrote, Lawful}
@@ -30,7 +31,9 @@ use Rattle.core_commit.specs.declared.commit_run.CommitStep.TheVariants.{Called,
 use Rattle.core_commit.specs.Ran.{HasMade, MadeOne, IsLaying}
 use Rattle.core_commit.specs.Ordered.{Ordered}
 use Rattle.core_commit.specs.Commits.{MayCommit}
-use Rattle.core_commit.specs.CommitTurns.{CommitRun, signing_run, IsLaidDown, IsMadeReady, HasCalled, HasEnded, CommitSteps, LaysSoFar, SignsSoFar, CommitsSoFar, IsCommitting, shown_at, shown_by}
+use Rattle.core_commit.specs.CommitTurns.{CommitRun, signing_run, IsLaidDown, IsMadeReady, HasCalled, HasEnded}
+use Rattle.core_commit.specs.CommitTurns.{CommitSteps, LaysSoFar, SignsSoFar, CommitsSoFar, IsCommitting, shown_at}
+use Rattle.core_commit.specs.CommitTurns.{shown_by}
 use Rattle.core_commit.proofs.Order.{plan_ordered, plan_lays, plan_settles, plan_signs}
 use Rattle.core_commit.proofs.Running.{some_same}
 use Rattle.core_commit.proofs.Stepping.{ready_keeps}

@@ -1,5 +1,6 @@
 -- What the two halves of a commit keep, call by call.
-use Rattle.std.proofs.Common.{◌≡◌, ◌≢◌, inl, ℕ, ◌*◌, ◌<◌, List, [], ◌∷◌, Bool, true, false, Some, Result, sym, ◌∙◌, ap, subst, arith}
+use Rattle.std.proofs.Common.{◌≡◌, ◌≢◌, inl, ℕ, ◌*◌, ◌<◌, List, [], ◌∷◌, Bool, true, false, Some, Result, sym, ◌∙◌, ap}
+use Rattle.std.proofs.Common.{subst, arith}
 use Rattle.std.specs.Prelude.{slice_get, ◌||◌}
 use Rattle.bank_trait.specs.declared.Failed.{Failed}
 use Rattle.bank_trait.specs.Disk.{Continues, Wrote}

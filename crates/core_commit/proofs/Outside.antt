@@ -1,5 +1,6 @@
 -- Calls on devices beyond the pool leave what is known of its commit.
-use Rattle.std.proofs.Common.{◌≡◌, ◌≢◌, ◌⊎◌, inl, inr, ⊎_elim, ℕ, ◌+◌, ◌<◌, ◌≤◌, List, [], ◌∷◌, Bool, false, Some, Result, refl, ap, arith}
+use Rattle.std.proofs.Common.{◌≡◌, ◌≢◌, ◌⊎◌, inl, inr, ⊎_elim, ℕ, ◌+◌, ◌<◌, ◌≤◌, List, [], ◌∷◌, Bool, false, Some}
+use Rattle.std.proofs.Common.{Result, refl, ap, arith}
 use Rattle.std.specs.Prelude.{IsSome, ◌==◌, ◌&&◌, not, is_ok}
 use Rattle.std.proofs.lemmas.Bool.Decides.{nat_tests}
 use Rattle.bank_trait.specs.declared.Failed.{Failed}
@@ -186,6 +187,7 @@ module _ (setting : Setting) (old new : Disk) (lawful : Lawful old) (leaves : Le
       spent = come.spent;
     }
 
+-- Law: A commit under way stays one over a sync of a device that no group has, or a write of a page there.
 pub committing_beyond : (setting : Setting) (first next : Kept) (run : CommitRun) (out : ℕ) (old new : Disk)
     → Lawful old → Lawful new → HasCalledOutside setting.reach old new
     → IsCommitting setting first next run (point_of out old)
@@ -205,12 +207,14 @@ committing_beyond setting first next run out old new lawful now_lawful called is
       (is.row.widths 1 next (omega arith)).most now_lawful out run.stage run.uber run.calls is.so_far;
 }
 
+-- Law: Such a call leaves what is known of the pool, whether it comes off or not.
 pub known_beyond : (setting : Setting) (first : Kept) (later : List Kept) (old new : Disk) → Lawful old
     → HasCalledOutside setting.reach old new → Knows setting first later old
     → Knows setting first later new
 known_beyond setting first later old new lawful called =
     knows_beyond setting old new lawful (leaves_pool setting.reach old new lawful called) first later
 
+-- Law: Such a call leaves what each image since a moment keeps.
 pub since_beyond : (setting : Setting) (groups : List Kept) (since : ℕ) (first : Kept) (later : List Kept)
     (old new : Disk) → Lawful old → HasCalledOutside setting.reach old new → IsRowOf groups first later
     → Knows setting first later old → KeepsSince setting groups since old

@@ -1,37 +1,38 @@
--- The order of copies: page and uberblock of a device are followed by its sync.
-use Rattle.std.proofs.Common.{◌≡◌, ◌⊎◌, ⊎_elim, inl, inr, ℕ, zero, suc, ◌<◌, List, [], ◌∷◌, ◌++◌, Bool, true, false, refl, sym, ◌∙◌, ap, subst, arith}
+-- The order in which a group is brought to devices: page and uberblock of a device are followed by its sync.
+use Rattle.std.proofs.Common.{◌≡◌, ◌⊎◌, ⊎_elim, inl, inr, ℕ, zero, suc, ◌<◌, List, [], ◌∷◌, ◌++◌, Bool, true, false}
+use Rattle.std.proofs.Common.{refl, sym, ◌∙◌, ap, subst, arith}
 use Rattle.std.specs.Prelude.{map, flat_map, filter, if◌then◌else◌}
 use Rattle.std.proofs.lemmas.Bool.{cases_lt}
 use Rattle.block_record.specs.Page.{page_sectors}
 use Rattle.uberblock_ring.specs.Devices.{has_device}
 use Rattle.commit_job.specs.declared.call.CommitCall.{CommitCall}
 use Rattle.commit_job.specs.declared.call.CommitCall.TheVariants.{IndexWrite, BaseSync, UberWrite, UberSync}
-use Rattle.commit_job.specs.Stages.{numbers_below, index_writes, copies_of}
+use Rattle.commit_job.specs.Stages.{numbers_below, index_writes, spread_of}
 use Rattle.core_state.specs.Committing.{Among}
 use Rattle.core_state.proofs.Calls.{true_false}
 use Rattle.core_commit.proofs.Order.{Every, every_append, every_among, every_each, among_front, among_back, among_each}
 
 module _ (devices parts lack_page lack_uber : ℕ) where
-  -- What comes after a copy: the sync of what it wrote, and behind the sync of a device nothing of it.
-  abbrev pub CopyDue : CommitCall → List CommitCall → Type 0
-  CopyDue (IndexWrite device part) rest = (device < devices) × (part < parts)
+  -- What comes after a write: the sync of its device, and behind that sync nothing of the device.
+  abbrev pub SpreadDue : CommitCall → List CommitCall → Type 0
+  SpreadDue (IndexWrite device part) rest = (device < devices) × (part < parts)
       × (has_device lack_page device ≡ true) × Among rest (UberSync device)
-  CopyDue (BaseSync device) rest = ⊥
-  CopyDue (UberWrite device) rest = (device < devices) × (has_device lack_uber device ≡ true)
+  SpreadDue (BaseSync device) rest = ⊥
+  SpreadDue (UberWrite device) rest = (device < devices) × (has_device lack_uber device ≡ true)
       × Among rest (UberSync device)
-  CopyDue (UberSync device) rest = (device < devices) × (Among rest (UberWrite device) → ⊥)
+  SpreadDue (UberSync device) rest = (device < devices) × (Among rest (UberWrite device) → ⊥)
       × ((part : ℕ) → Among rest (IndexWrite device part) → ⊥)
 
-  abbrev pub CopiesOrdered : List CommitCall → Type 0
-  CopiesOrdered [] = Unit {0}
-  CopiesOrdered (call ∷ rest) = CopyDue call rest × CopiesOrdered rest
+  abbrev pub SpreadOrdered : List CommitCall → Type 0
+  SpreadOrdered [] = Unit {0}
+  SpreadOrdered (call ∷ rest) = SpreadDue call rest × SpreadOrdered rest
 
-  -- a write of a copy
-  abbrev IsCopy : CommitCall → Type 0
-  IsCopy (IndexWrite device part) = (device < devices) × (part < parts) × (has_device lack_page device ≡ true)
-  IsCopy (BaseSync device) = ⊥
-  IsCopy (UberWrite device) = (device < devices) × (has_device lack_uber device ≡ true)
-  IsCopy (UberSync device) = ⊥
+  -- a write
+  abbrev IsOfSpread : CommitCall → Type 0
+  IsOfSpread (IndexWrite device part) = (device < devices) × (part < parts) × (has_device lack_page device ≡ true)
+  IsOfSpread (BaseSync device) = ⊥
+  IsOfSpread (UberWrite device) = (device < devices) × (has_device lack_uber device ≡ true)
+  IsOfSpread (UberSync device) = ⊥
 
   abbrev syncs : List CommitCall
   syncs = map (λ device. UberSync device) (numbers_below devices)
@@ -44,7 +45,7 @@ module _ (devices parts lack_page lack_uber : ℕ) where
   each_sync : Every IsSync syncs
   each_sync = every_each (λ device. UberSync device) IsSync devices (λ device below. below)
 
-  syncs_ordered : (calls : List CommitCall) → Every IsSync calls → CopiesOrdered calls
+  syncs_ordered : (calls : List CommitCall) → Every IsSync calls → SpreadOrdered calls
   syncs_ordered [] every = tt
   syncs_ordered (IndexWrite device part ∷ calls) every = absurd every.0
   syncs_ordered (BaseSync device ∷ calls) every = absurd every.0
@@ -62,18 +63,18 @@ module _ (devices parts lack_page lack_uber : ℕ) where
   sync_behind front device below =
       among_back front syncs (UberSync device) (among_each (λ d. UberSync d) devices device below)
 
-  copies_before : (calls : List CommitCall) → Every IsCopy calls → CopiesOrdered (calls ++ syncs)
-  copies_before [] every = syncs_ordered syncs each_sync
-  copies_before (IndexWrite device part ∷ calls) every = (
+  spread_before : (calls : List CommitCall) → Every IsOfSpread calls → SpreadOrdered (calls ++ syncs)
+  spread_before [] every = syncs_ordered syncs each_sync
+  spread_before (IndexWrite device part ∷ calls) every = (
     (every.0.0, every.0.1, every.0.2, sync_behind calls device every.0.0),
-    copies_before calls every.1,
+    spread_before calls every.1,
   )
-  copies_before (BaseSync device ∷ calls) every = absurd every.0
-  copies_before (UberWrite device ∷ calls) every = (
+  spread_before (BaseSync device ∷ calls) every = absurd every.0
+  spread_before (UberWrite device ∷ calls) every = (
     (every.0.0, every.0.1, sync_behind calls device every.0.0),
-    copies_before calls every.1,
+    spread_before calls every.1,
   )
-  copies_before (UberSync device ∷ calls) every = absurd every.0
+  spread_before (UberSync device ∷ calls) every = absurd every.0
 
 -- Each number of a list has this.
 abbrev EveryNumber : (ℕ → Type 0) → List ℕ → Type 0
@@ -142,7 +143,7 @@ number_below (suc count) number below = number_append (numbers_below count) (cou
     (⊎_elim (λ less. inl (number_below count number less)) (λ above. inr (inl (omega (arith, above, below))))
     (cases_lt number count))
 
--- Being among the copies of a device.
+-- Being among the calls on a device.
 among_numbers : (numbers : List ℕ) (call_of : ℕ → CommitCall) (number : ℕ) (set : ℕ)
     → has_device set number ≡ true → IsNumberOf numbers number
     → Among (map call_of (filter (has_device set) numbers)) (call_of number)
@@ -199,38 +200,38 @@ module _ (devices count lack_page lack_uber : ℕ) where
   abbrev ubers : List CommitCall
   ubers = map (λ device. UberWrite device) (filter (has_device lack_uber) (numbers_below devices))
 
-  -- The copies of a group are in order.
-  pub copies_ordered : CopiesOrdered devices (page_sectors count) lack_page lack_uber
-      (copies_of devices count lack_page lack_uber)
-  copies_ordered = copies_before devices (page_sectors count) lack_page lack_uber (pages ++ ubers)
-      (every_append (IsCopy devices (page_sectors count) lack_page lack_uber) pages ubers
+  -- These calls are in order.
+  pub spread_ordered : SpreadOrdered devices (page_sectors count) lack_page lack_uber
+      (spread_of devices count lack_page lack_uber)
+  spread_ordered = spread_before devices (page_sectors count) lack_page lack_uber (pages ++ ubers)
+      (every_append (IsOfSpread devices (page_sectors count) lack_page lack_uber) pages ubers
       (pages_each (λ d. (d < devices) × (has_device lack_page d ≡ true))
-      (IsCopy devices (page_sectors count) lack_page lack_uber) count
+      (IsOfSpread devices (page_sectors count) lack_page lack_uber) count
       (filter (has_device lack_page) (numbers_below devices))
       (λ d part has low. (has.0, low, has.1))
       (numbers_filter (λ d. d < devices) lack_page (numbers_below devices)
       (numbers_every (λ d. d < devices) devices (λ d below. below))))
       (calls_each (λ d. (d < devices) × (has_device lack_uber d ≡ true))
-      (IsCopy devices (page_sectors count) lack_page lack_uber) (λ d. UberWrite d)
+      (IsOfSpread devices (page_sectors count) lack_page lack_uber) (λ d. UberWrite d)
       (filter (has_device lack_uber) (numbers_below devices))
       (λ d has. has)
       (numbers_filter (λ d. d < devices) lack_uber (numbers_below devices)
       (numbers_every (λ d. d < devices) devices (λ d below. below)))))
 
-  pub copies_lay : (device part : ℕ) → device < devices → has_device lack_page device ≡ true
+  pub spread_lay : (device part : ℕ) → device < devices → has_device lack_page device ≡ true
       → part < page_sectors count
-      → Among (copies_of devices count lack_page lack_uber) (IndexWrite device part)
-  copies_lay device part below lacks low = among_front (pages ++ ubers) (syncs devices (page_sectors count) lack_page lack_uber) (IndexWrite device part)
+      → Among (spread_of devices count lack_page lack_uber) (IndexWrite device part)
+  spread_lay device part below lacks low = among_front (pages ++ ubers) (syncs devices (page_sectors count) lack_page lack_uber) (IndexWrite device part)
       (among_front pages ubers (IndexWrite device part)
       (among_pages (numbers_below devices) count device part lack_page lacks low (number_below devices device below)))
 
-  pub copies_sign : (device : ℕ) → device < devices → has_device lack_uber device ≡ true
-      → Among (copies_of devices count lack_page lack_uber) (UberWrite device)
-  copies_sign device below lacks = among_front (pages ++ ubers) (syncs devices (page_sectors count) lack_page lack_uber) (UberWrite device)
+  pub spread_sign : (device : ℕ) → device < devices → has_device lack_uber device ≡ true
+      → Among (spread_of devices count lack_page lack_uber) (UberWrite device)
+  spread_sign device below lacks = among_front (pages ++ ubers) (syncs devices (page_sectors count) lack_page lack_uber) (UberWrite device)
       (among_back pages ubers (UberWrite device)
       (among_numbers (numbers_below devices) (λ d. UberWrite d) device lack_uber lacks
       (number_below devices device below)))
 
-  pub copies_seal : (device : ℕ) → device < devices
-      → Among (copies_of devices count lack_page lack_uber) (UberSync device)
-  copies_seal device below = sync_behind devices (page_sectors count) lack_page lack_uber (pages ++ ubers) device below
+  pub spread_seal : (device : ℕ) → device < devices
+      → Among (spread_of devices count lack_page lack_uber) (UberSync device)
+  spread_seal device below = sync_behind devices (page_sectors count) lack_page lack_uber (pages ++ ubers) device below

@@ -1,5 +1,6 @@
 -- A step of a commit: that the run stays right, and what a step leaves alone.
-use Rattle.std.proofs.Common.{◌≡◌, inl, inr, ℕ, ◌+◌, ◌-◌, ◌^◌, ◌<◌, ◌≤◌, List, false, Some, refl, sym, ◌∙◌, ap, subst, arith}
+use Rattle.std.proofs.Common.{◌≡◌, inl, inr, ℕ, ◌+◌, ◌-◌, ◌^◌, ◌<◌, ◌≤◌, List, false, Some, refl, sym, ◌∙◌, ap, subst}
+use Rattle.std.proofs.Common.{arith}
 use Rattle.std.specs.Prelude.{All, slice_get, slice_index_or}
 use Rattle.uberblock_ring.specs.Devices.{has_device, count_below, count_of}
 use Rattle.uberblock_ring.specs.Uberblock.{Uber}

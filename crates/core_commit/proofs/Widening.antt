@@ -1,5 +1,6 @@
 -- A device joins the pool at the first uberblock write of a commit.
-use Rattle.std.proofs.Common.{◌≡◌, ◌⊎◌, inl, inr, ⊎_elim, ℕ, zero, suc, ◌+◌, ◌<◌, ◌≤◌, [], ◌∷◌, false, Some, sym, ◌∙◌, ap, subst, arith}
+use Rattle.std.proofs.Common.{◌≡◌, ◌⊎◌, inl, inr, ⊎_elim, ℕ, zero, suc, ◌+◌, ◌<◌, ◌≤◌, [], ◌∷◌, false, Some, sym, ◌∙◌}
+use Rattle.std.proofs.Common.{ap, subst, arith}
 use Rattle.std.specs.Prelude.{◌↔◌, List, AllPairs, Contains, IsSome}
 use Rattle.std.proofs.lemmas.Bool.{cases_lt}
 use Rattle.std.proofs.lemmas.List.Elements.{All-cons, All-nil}
@@ -28,7 +29,8 @@ use Rattle.core_state.proofs.Resting.{asks_resting, asks_resting_back, resting}
 use Rattle.core_commit.specs.declared.commit_run.Stage.{Stage}
 use Rattle.core_commit.specs.Ran.{IsLaying}
 use Rattle.core_commit.specs.Ordered.{Ordered}
-use Rattle.core_commit.specs.CommitTurns.{CommitRun, IsCommitRun, IsLaidDown, LaysSoFar, CommitsSoFar, IsCommitting, IsBeside}
+use Rattle.core_commit.specs.CommitTurns.{CommitRun, IsCommitRun, IsLaidDown, LaysSoFar, CommitsSoFar, IsCommitting}
+use Rattle.core_commit.specs.CommitTurns.{IsBeside}
 use Rattle.core_commit.specs.Widening.{widened_uber, widened_kept, widened_run, MayWiden}
 use Rattle.core_commit.proofs.Going.{ordered_inside, all_inside}
 use Rattle.core_commit.proofs.Order.{signing_ordered, signing_signs, signing_only}
@@ -74,7 +76,7 @@ widened_run_right run rest room is = record {
 pub widened_alike : (uber other : Uber) → AreAlike uber other → AreAlike (widened_uber uber) (widened_uber other)
 widened_alike uber other alike = ap widened_uber alike
 
--- With one device more a group of which nothing is moved asks for the same.
+-- Law: The group with that device asks for the same sectors, since nothing is moved yet.
 pub asks_widened : (next : Kept) (device device_sector : ℕ) (bytes : List ℕ) → next.uber.reflow.state ≡ None
     → Asks (widened_kept next) device device_sector bytes ↔ Asks next device device_sector bytes
 asks_widened next device device_sector bytes none = (
@@ -274,7 +276,7 @@ module _ (setting : Setting) (first next : Kept) (run : CommitRun) (point : Poin
     sealed = λ device below used. inl (signing device below).1;
   }
 
-  -- The commit goes on in its second half, with one device more.
+  -- Law: A commit whose first half is done goes on as one that a further device joins: the pool reaches to it.
   pub commit_widened : IsCommitting wider first (widened_kept next) (widened_run run) point
   commit_widened = record {
     row = succession;

@@ -1,10 +1,12 @@
--- What the calls of a copy write.
-use Rattle.std.proofs.Common.{◌≡◌, ◌⊎◌, inl, inr, ⊎_elim, ℕ, ◌<◌, ◌≤◌, List, [], ◌∷◌, true, Result, Ok, Err, refl, sym, ◌∙◌, ap, subst, arith}
+-- What the calls write that bring a group to devices.
+use Rattle.std.proofs.Common.{◌≡◌, ◌⊎◌, inl, inr, ⊎_elim, ℕ, ◌<◌, ◌≤◌, List, [], ◌∷◌, true, Result, Ok, Err, refl, sym}
+use Rattle.std.proofs.Common.{◌∙◌, ap, subst, arith}
 use Rattle.std.specs.Prelude.{Contains, All, ⊤, zero, suc}
 use Rattle.std.proofs.lemmas.Bool.{cases_eq, cases_lt}
 use Rattle.bank_trait.specs.declared.Failed.{Failed}
 use Rattle.bank_trait.specs.Disk.{Disk, Lawful, Continues, Wrote, Synced}
-use Rattle.bank_trait.proofs.Moments.{later_refl, later_trans, left_cases, left_now, left_last, now_left, before_write, before_sync}
+use Rattle.bank_trait.proofs.Moments.{later_refl, later_trans, left_cases, left_now, left_last, now_left, before_write}
+use Rattle.bank_trait.proofs.Moments.{before_sync}
 use Rattle.bank_trait.proofs.Touches.{other_than}
 use Rattle.block_record.specs.declared.entry.IndexEntry.{IndexEntry}
 use Rattle.block_record.specs.Page.{page_sectors}
@@ -12,14 +14,14 @@ use Rattle.uberblock_ring.specs.Devices.{has_device, IsWithin}
 use Rattle.uberblock_ring.specs.Uberblock.{Uber}
 use Rattle.commit_job.specs.declared.call.CommitCall.{CommitCall}
 use Rattle.commit_job.specs.declared.call.CommitCall.TheVariants.{IndexWrite, BaseSync, UberWrite, UberSync}
-use Rattle.commit_job.specs.Stages.{device_of, after_next, copies_of}
+use Rattle.commit_job.specs.Stages.{device_of, after_next, spread_of}
 use Rattle.core_state.specs.Committing.{Point}
 use Rattle.core_commit.specs.Ran.{MadeOne, Step, Ran, RanBy}
 use Rattle.core_commit.proofs.Going.{in_use_before}
 use Rattle.core_commit.proofs.Halves.{stays_out}
 use Rattle.core_commit.proofs.Running.{next_is}
-use Rattle.core_commit.proofs.Spreading.{CopyDue, CopiesOrdered, copies_ordered}
-use Rattle.core_commit.specs.Writing.{IsUberCopy, IsCopyOf, WritesOnly}
+use Rattle.core_commit.proofs.Spreading.{SpreadDue, SpreadOrdered, spread_ordered}
+use Rattle.core_commit.specs.Writing.{IsSpreadUber, IsSpreadOf, WritesOnly}
 
 -- no call
 pub writes_none : (P : ℕ → ℕ → List ℕ → Type 0) (disk : Disk) → WritesOnly P disk disk
@@ -148,7 +150,7 @@ module _ (uber : Uber) (entries : List IndexEntry) (lack_page lack_uber : ℕ) w
   IsMeant (UberSync device) = ⊤
 
   is_meant : (call : CommitCall) (rest : List CommitCall)
-      → CopyDue uber.reflow.to (page_sectors uber.count) lack_page lack_uber call rest
+      → SpreadDue uber.reflow.to (page_sectors uber.count) lack_page lack_uber call rest
       → IsMeant call
   is_meant (IndexWrite device part) rest due = (due.0, due.1, due.2)
   is_meant (BaseSync device) rest due = tt
@@ -156,64 +158,64 @@ module _ (uber : Uber) (entries : List IndexEntry) (lack_page lack_uber : ℕ) w
   is_meant (UberSync device) rest due = tt
 
   all_meant : (plan : List CommitCall)
-      → CopiesOrdered uber.reflow.to (page_sectors uber.count) lack_page lack_uber plan
+      → SpreadOrdered uber.reflow.to (page_sectors uber.count) lack_page lack_uber plan
       → All IsMeant plan
   all_meant [] ordered k d low = absurd (omega (arith, low))
   all_meant (call ∷ plan) ordered zero d low = is_meant call plan ordered.0
   all_meant (call ∷ plan) ordered (suc k) d low = all_meant plan ordered.1 k d (omega (arith, low))
 
-  abbrev pub IsCopy : ℕ → ℕ → ℕ → List ℕ → Type 0
-  IsCopy = IsCopyOf uber entries lack_page lack_uber
+  abbrev pub IsOfSpread : ℕ → ℕ → ℕ → List ℕ → Type 0
+  IsOfSpread = IsSpreadOf uber entries lack_page lack_uber
 
-  -- One call of a copy.
+  -- One of these calls.
   made_writes : (call : CommitCall) (before after : Point) → Lawful before.disk → IsMeant call
       → MadeOne uber entries call before after
-      → WritesOnly (IsCopy before.out) before.disk after.disk
+      → WritesOnly (IsOfSpread before.out) before.disk after.disk
   made_writes (IndexWrite device part) before after lawful meant made =
-      wrote_writes (IsCopy before.out) (inr (record {
+      wrote_writes (IsOfSpread before.out) (inr (record {
         below = meant.0;
         lacks = meant.2;
         used = made.called.in_use;
         part = part;
         inside = meant.1;
         place = refl;
-        copy = refl;
+        bytes_are = refl;
       })) made.made
   made_writes (BaseSync device) before after lawful meant made =
-      synced_writes (IsCopy before.out) made.result lawful made.made
+      synced_writes (IsOfSpread before.out) made.result lawful made.made
   made_writes (UberWrite device) before after lawful meant made =
-      wrote_writes (IsCopy before.out) (inl (record {
+      wrote_writes (IsOfSpread before.out) (inl (record {
         below = meant.0;
         lacks = meant.1;
         used = made.called.in_use;
         slot = refl;
-        copy = refl;
+        bytes_are = refl;
       })) made.made
   made_writes (UberSync device) before after lawful meant made =
-      synced_writes (IsCopy before.out) made.result lawful made.made
+      synced_writes (IsOfSpread before.out) made.result lawful made.made
 
   -- A device that is in use was so before.
   pub was_uber : (before after : Point) → IsWithin before.out after.out → (d x : ℕ) (bytes : List ℕ)
-      → IsUberCopy uber lack_uber after.out d x bytes → IsUberCopy uber lack_uber before.out d x bytes
-  was_uber before after stay d x bytes copy = record {
-    below = copy.below;
-    lacks = copy.lacks;
-    used = in_use_before before after d stay copy.used;
-    slot = copy.slot;
-    copy = copy.copy;
+      → IsSpreadUber uber lack_uber after.out d x bytes → IsSpreadUber uber lack_uber before.out d x bytes
+  was_uber before after stay d x bytes spread = record {
+    below = spread.below;
+    lacks = spread.lacks;
+    used = in_use_before before after d stay spread.used;
+    slot = spread.slot;
+    bytes_are = spread.bytes_are;
   }
 
-  pub was_copy : (before after : Point) → IsWithin before.out after.out → (d x : ℕ) (bytes : List ℕ)
-      → IsCopy after.out d x bytes → IsCopy before.out d x bytes
-  was_copy before after stay d x bytes (inl copy) = inl (was_uber before after stay d x bytes copy)
-  was_copy before after stay d x bytes (inr copy) = inr (record {
-    below = copy.below;
-    lacks = copy.lacks;
-    used = in_use_before before after d stay copy.used;
-    part = copy.part;
-    inside = copy.inside;
-    place = copy.place;
-    copy = copy.copy;
+  pub was_spread : (before after : Point) → IsWithin before.out after.out → (d x : ℕ) (bytes : List ℕ)
+      → IsOfSpread after.out d x bytes → IsOfSpread before.out d x bytes
+  was_spread before after stay d x bytes (inl spread) = inl (was_uber before after stay d x bytes spread)
+  was_spread before after stay d x bytes (inr spread) = inr (record {
+    below = spread.below;
+    lacks = spread.lacks;
+    used = in_use_before before after d stay spread.used;
+    part = spread.part;
+    inside = spread.inside;
+    place = spread.place;
+    bytes_are = spread.bytes_are;
   })
 
   -- What is known of some calls of a plan.
@@ -221,7 +223,7 @@ module _ (uber : Uber) (entries : List IndexEntry) (lack_page lack_uber : ℕ) w
     lawful : Lawful now.disk
     meant : All IsMeant left
     stay : IsWithin point.out now.out
-    writes : WritesOnly (IsCopy point.out) point.disk now.disk
+    writes : WritesOnly (IsOfSpread point.out) point.disk now.disk
 
   have_written : (steps : List Step) (plan left : List CommitCall) (point now : Point) → Lawful point.disk
       → All IsMeant plan → RanBy uber entries steps plan point left now
@@ -232,7 +234,7 @@ module _ (uber : Uber) (entries : List IndexEntry) (lack_page lack_uber : ℕ) w
         lawful = lawful;
         meant = meant;
         stay = λ device out. out;
-        writes = writes_none (IsCopy point.out) point.disk;
+        writes = writes_none (IsOfSpread point.out) point.disk;
       }))
   have_written (step ∷ steps) plan left point now lawful meant (rest, ran, is, made, left_is, now_is) =
       let so_far = have_written steps plan rest point step.before lawful meant ran in
@@ -243,17 +245,17 @@ module _ (uber : Uber) (entries : List IndexEntry) (lack_page lack_uber : ℕ) w
         meant = next.rest;
         stay = λ device out. stays_out (device_of step.call) made.result step.before step.after made.called device
             (so_far.stay device out);
-        writes = writes_then (IsCopy point.out) (IsCopy step.before.out) (IsCopy point.out) (λ d x bytes copy. copy)
-            (was_copy point step.before so_far.stay) so_far.writes
+        writes = writes_then (IsOfSpread point.out) (IsOfSpread step.before.out) (IsOfSpread point.out) (λ d x bytes spread. spread)
+            (was_spread point step.before so_far.stay) so_far.writes
             (made_writes step.call step.before step.after so_far.lawful next.fits made);
       }))
 
-  -- The calls of a run of copies write copies alone.
+  -- A run of these calls writes the group's page and uberblock alone.
   pub ran_writes : (plan left : List CommitCall) (before after : Point) → Lawful before.disk
-      → plan ≡ copies_of uber.reflow.to uber.count lack_page lack_uber
+      → plan ≡ spread_of uber.reflow.to uber.count lack_page lack_uber
       → Ran uber entries plan before left after
-      → WritesOnly (IsCopyOf uber entries lack_page lack_uber before.out) before.disk after.disk
+      → WritesOnly (IsSpreadOf uber entries lack_page lack_uber before.out) before.disk after.disk
   ran_writes plan left before after lawful is ran =
       (have_written ran.0 plan left before after lawful
-      (subst (All IsMeant) (sym is) (all_meant _ (copies_ordered uber.reflow.to uber.count lack_page lack_uber)))
+      (subst (All IsMeant) (sym is) (all_meant _ (spread_ordered uber.reflow.to uber.count lack_page lack_uber)))
       ran.1).writes

@@ -1,5 +1,6 @@
 -- A commit that makes one call a step: what a step does, and how far a commit has come between two.
-use Rattle.std.specs.Prelude.{◌≡◌, ◌≢◌, ◌⊎◌, ℕ, ◌+◌, ◌<◌, ◌≤◌, List, [], ◌∷◌, Some, true, All, Contains, slice_get, length}
+use Rattle.std.specs.Prelude.{◌≡◌, ◌≢◌, ◌⊎◌, ℕ, ◌+◌, ◌<◌, ◌≤◌, List, [], ◌∷◌, Some, true, All, Contains, slice_get}
+use Rattle.std.specs.Prelude.{length}
 use Rattle.block_record.specs.declared.entry.IndexEntry.{IndexEntry}
 use Rattle.block_record.specs.Page.{page_sectors, IsIndex}
 use Rattle.uberblock_ring.specs.Devices.{has_device}

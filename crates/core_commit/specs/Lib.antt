@@ -1,8 +1,12 @@
 pub mod Ran
 pub mod Commits
-pub mod Copies
+pub mod Spread
 pub mod Spared
 pub mod Writing
 pub mod Ordered
 pub mod CommitTurns
 pub mod Widening
+pub mod JoinRun
+pub mod JoinTurns
+pub mod Joining
+pub mod NextUber

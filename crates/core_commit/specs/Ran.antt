@@ -1,5 +1,6 @@
 -- Which device calls a commit made, one by one.
-use Rattle.std.specs.Prelude.{◌≡◌, ℕ, ◌+◌, ◌*◌, ◌<◌, ◌≤◌, List, [], ◌∷◌, Some, false, take, drop, slice_get, Result, length}
+use Rattle.std.specs.Prelude.{◌≡◌, ℕ, ◌+◌, ◌*◌, ◌<◌, ◌≤◌, List, [], ◌∷◌, Some, false, take, drop, slice_get, Result}
+use Rattle.std.specs.Prelude.{length}
 use Rattle.bank_trait.specs.declared.Failed.{Failed}
 use Rattle.bank_trait.specs.Disk.{Disk, Wrote, Synced}
 use Rattle.block_record.specs.declared.entry.IndexEntry.{IndexEntry}

@@ -1,4 +1,4 @@
--- Which bytes the copies of a group have, and where they are written.
+-- Which bytes are written where a group is brought to devices.
 use Rattle.std.specs.Prelude.{◌≡◌, ◌⊎◌, ℕ, ◌+◌, ◌<◌, ◌≤◌, List, true, false, Contains}
 use Rattle.bank_trait.specs.Disk.{Image, Disk, Later, MayLeave, LeftSince}
 use Rattle.block_record.specs.declared.entry.IndexEntry.{IndexEntry}
@@ -9,17 +9,17 @@ use Rattle.core_commit.specs.Ran.{index_part}
 
 -- The bytes are the uberblock's for this device, in the slot of its group. The device is one of the pool that
 -- lacks it and isn't out.
-pub record IsUberCopy (uber : Uber) (lacking out device device_sector : ℕ) (bytes : List ℕ) : Type 0
+pub record IsSpreadUber (uber : Uber) (lacking out device device_sector : ℕ) (bytes : List ℕ) : Type 0
   where
     pub below : device < uber.reflow.to
     pub lacks : has_device lacking device ≡ true
     pub used : has_device out device ≡ false
     pub slot : device_sector ≡ slot_of uber.group
-    pub copy : bytes ≡ encoded uber device
+    pub bytes_are : bytes ≡ encoded uber device
 
 -- The bytes are those of one sector of the index page, in its place in the group's index area. The device is one
 -- of the pool that lacks the page and isn't out.
-pub record IsPageCopy (uber : Uber) (entries : List IndexEntry) (lacking out device device_sector : ℕ)
+pub record IsSpreadPage (uber : Uber) (entries : List IndexEntry) (lacking out device device_sector : ℕ)
     (bytes : List ℕ) : Type 0 where
   pub below : device < uber.reflow.to
   pub lacks : has_device lacking device ≡ true
@@ -27,13 +27,13 @@ pub record IsPageCopy (uber : Uber) (entries : List IndexEntry) (lacking out dev
   pub part : ℕ
   pub inside : part < page_sectors uber.count
   pub place : device_sector ≡ area_sector uber.area + part
-  pub copy : bytes ≡ index_part entries part
+  pub bytes_are : bytes ≡ index_part entries part
 
--- The bytes belong to a copy of this group: to one of its uberblock, or to one of its index page.
-abbrev pub IsCopyOf : Uber → List IndexEntry → ℕ → ℕ → ℕ → ℕ → ℕ → List ℕ → Type 0
-IsCopyOf uber entries lack_page lack_uber out device device_sector bytes =
-    IsUberCopy uber lack_uber out device device_sector bytes
-    ⊎ IsPageCopy uber entries lack_page out device device_sector bytes
+-- The bytes are of this group's uberblock, or of its index page.
+abbrev pub IsSpreadOf : Uber → List IndexEntry → ℕ → ℕ → ℕ → ℕ → ℕ → List ℕ → Type 0
+IsSpreadOf uber entries lack_page lack_uber out device device_sector bytes =
+    IsSpreadUber uber lack_uber out device device_sector bytes
+    ⊎ IsSpreadPage uber entries lack_page out device device_sector bytes
 
 -- Nothing was written but bytes that have P in the sector where they were written; what was written before may
 -- have been synced. A crash at any moment since leaves what one could have left at first, but in sectors where

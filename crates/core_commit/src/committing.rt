@@ -1,15 +1,16 @@
-// The device calls of a commit, and copies of a group.
-ghost use Rattle.std.specs.Prelude.{◌≡◌, ◌↔◌, ◌+◌, ◌*◌, ◌^◌, ◌<◌, ◌≤◌, [], All, Some, None, false, length, take, drop, slice_get, IfSome, IsTrue, OnOk, OnErr};
+// The device calls of a commit, and of bringing a group to devices that lack it.
+ghost use Rattle.std.specs.Prelude.{◌≡◌, ◌↔◌, ◌+◌, ◌*◌, ◌^◌, ◌<◌, ◌≤◌, [], All, Some, None, false, length, take, drop};
+ghost use Rattle.std.specs.Prelude.{slice_get, IfSome, IsTrue, OnOk, OnErr};
 ghost use Rattle.block_record.specs.Page.{index_page, page_sectors, IsIndex};
 ghost use Rattle.uberblock_ring.specs.Devices.{has_device, count_of};
 ghost use Rattle.uberblock_ring.specs.Valid.{IsRightUber};
 ghost use Rattle.commit_job.specs.declared.call.CommitCall.{CommitCall as CallOf};
 ghost use Rattle.commit_job.specs.Stages.{device_of, calls_left};
-ghost use Rattle.core_commit.specs.Copies.{CopyKeeps};
+ghost use Rattle.core_commit.specs.Spread.{SpreadKeeps};
 ghost use Rattle.core_commit.specs.Ran.{HasMade, MadeOne, Ran, IsCallInPool, FitsBank, IsSigning, index_part};
 ghost use Rattle.core_state.specs.Committing.{point_of};
 ghost use Rattle.core_commit.specs.Spared.{SparesData, HaveGoneOut, TouchesGroup, StopsInTime};
-ghost use Rattle.core_commit.specs.Writing.{IsCopyOf, WritesOnly};
+ghost use Rattle.core_commit.specs.Writing.{IsSpreadOf, WritesOnly};
 
 use bank_trait::{Bank, Failed};
 use block_record::{IndexEntry, index_sector};
@@ -160,7 +161,7 @@ pub struct TooManyOut;
 /// Brings a group that some devices have to those that lack its index page or its uberblock, and syncs
 /// each device. A device whose call fails goes out; once more are out than there are parities, none is
 /// called.
-pub fn copy<B: Bank>(
+pub fn spread<B: Bank>(
     bank: &mut B,
     uber: &Uber,
     entries: &[IndexEntry],
@@ -183,12 +184,12 @@ pub fn copy<B: Bank>(
         (point_of out.new (B.disk bank.new)) }
     ensures stops { StopsInTime uber.now.parity (point_of out.old (B.disk bank.old))
         (point_of out.new (B.disk bank.new)) }
-    ensures writes { WritesOnly (IsCopyOf uber.now entries.now lack_page lack_uber out.old)
+    ensures writes { WritesOnly (IsSpreadOf uber.now entries.now lack_page lack_uber out.old)
         (B.disk bank.old) (B.disk bank.new) }
-    ensures keeps { CopyKeeps uber.now entries.now lack_page lack_uber
+    ensures keeps { SpreadKeeps uber.now entries.now lack_page lack_uber
         (point_of out.old (B.disk bank.old)) (point_of out.new (B.disk bank.new)) result }
 {
-    let mut calls = Commit::copies(uber.reflow().to, uber.count(), lack_page, lack_uber);
+    let mut calls = Commit::spread(uber.reflow().to, uber.count(), lack_page, lack_uber);
     make_all(bank, uber, entries, &mut calls, out);
     if out.exceeds(uber.parity()) {
         return Err(TooManyOut);

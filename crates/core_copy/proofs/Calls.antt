@@ -6,8 +6,8 @@ use Rattle.bank_trait.specs.declared.Failed.{Failed}
 use Rattle.bank_trait.specs.Causes.{FaultCounted, FailedOnce}
 use Rattle.bank_trait.specs.Disk.{Unchanged}
 use Rattle.core_state.specs.Committing.{Called, Point}
-use Rattle.core_client.specs.declared.spot.Spot.{Spot}
-use Rattle.core_client.specs.Reading.{IsRead}
+use Rattle.core_state.specs.declared.spot.Spot.{Spot}
+use Rattle.core_state.specs.SpotReads.{IsRead}
 
 -- A read that failed gave nothing,
 pub read_failed : (spot : Spot) (result : Result (Unit {0}) Failed) (before after : Point) → true ≡ is_err result

@@ -16,7 +16,7 @@ use Rattle.shadow_write.specs.Required.{IsFrontIn}
 use Rattle.mark_choice.specs.CommitChoice.{IsChoiceIn, IsFilledOrDrained, IsNextMark, MayRecord, Chooses}
 use Rattle.mark_choice.proofs.Recording.{chooses}
 use Rattle.mark_choice.proofs.Clear.{next_mark_between}
-use Rattle.reflow_band.specs.Band.{IsFrontOf, IsWidening}
+use Rattle.shadow_write.specs.Band.{IsFrontOf, IsWidening}
 
 abbrev shared_hold : ℕ → ℕ → Hold
 shared_hold lo hi = record { lo = lo; hi = hi; actor = 0; kind = Shared }
@@ -90,6 +90,7 @@ module _ (reflow : Reflow) (done : ℕ) (chosen : Reflow) (widening : IsWidening
       recorded Moved hi (shared_hold next (next + 1) ∷ []) may.0
       (next, next_mark_stays reflow.mark hi next between.0 (omega (arith, between.1, may.1, may.2)), choice.1.2)
 
+-- Law: A choice that was made while a job ran may still be recorded once the job has ended.
 pub run_leaves_choice : (reflow : Reflow) (done : ℕ) (job : Job) (chosen : Reflow) → IsWidening reflow
     → IsFrontOf reflow done → MayRun reflow done job → MayRecord reflow done chosen
     → MayRecord reflow (job_end reflow job) chosen

@@ -1,5 +1,6 @@
 -- What a job under way keeps of a cell, from its begin over each step to its end.
-use Rattle.std.proofs.Common.{◌≡◌, ◌≢◌, ◌⊎◌, inl, inr, ⊎_elim, ℕ, ◌+◌, ◌/◌, ◌<◌, ◌≤◌, Bool, true, false, List, Option, Some, None, Result, Ok, Err, refl, sym, ◌∙◌, ap, subst, arith}
+use Rattle.std.proofs.Common.{◌≡◌, ◌≢◌, ◌⊎◌, inl, inr, ⊎_elim, ℕ, ◌+◌, ◌/◌, ◌<◌, ◌≤◌, Bool, true, false, List, Option}
+use Rattle.std.proofs.Common.{Some, None, Result, Ok, Err, refl, sym, ◌∙◌, ap, subst, arith}
 use Rattle.std.specs.Prelude.{◌==◌, ◌&&◌, ◌||◌, IsSome}
 use Rattle.std.proofs.lemmas.Bool.Decides.{nat_tests}
 use Rattle.bank_trait.specs.declared.Failed.{Failed}
@@ -18,18 +19,20 @@ use Rattle.uberblock_ring.specs.Valid.{IsRightUber}
 use Rattle.core_state.specs.Committing.{Called, Point}
 use Rattle.core_state.specs.JobTurns.{MayRun}
 use Rattle.core_state.specs.Whole.{Cell, Excepted, RightAt}
-use Rattle.reflow_band.specs.Band.{IsFrontOf}
-use Rattle.spare_write.specs.Around.{IsClose}
-use Rattle.core_client.specs.declared.spot.Spot.{Spot}
-use Rattle.core_client.specs.Pool.{HasPool}
-use Rattle.core_client.specs.Reading.{HasGiven}
-use Rattle.job_copy.specs.Progress.{CopiesSector, HasComeTo, IsOnPool, IsPlaceSoFar, IsSource, IsTarget, call_count}
-use Rattle.job_copy.proofs.Beside.{same_targets}
-use Rattle.job_copy.proofs.Close.{right_widening}
-use Rattle.job_copy.proofs.Fronts.{job_at_front, job_some, none_moved}
-use Rattle.job_copy.proofs.Inside.{right_room, target_inside}
-use Rattle.job_copy.proofs.Steps.{come_outside, job_ends, job_fails, job_goes_on, put_stays, reads_cell, stays_come, stays_out}
-use Rattle.core_copy.specs.JobRun.{JobRun, JobMayBegin, JobSteps, ReadsSector, WritesSector, begun_run, present_sector, source_spot, target_spot}
+use Rattle.shadow_write.specs.Band.{IsFrontOf}
+use Rattle.core_copy.specs.Around.{IsClose}
+use Rattle.core_state.specs.declared.spot.Spot.{Spot}
+use Rattle.core_state.specs.PoolBank.{HasPool}
+use Rattle.core_state.specs.SpotReads.{HasGiven}
+use Rattle.core_copy.specs.Progress.{CopiesSector, HasComeTo, IsOnPool, IsPlaceSoFar, IsSource, IsTarget, call_count}
+use Rattle.core_copy.proofs.Beside.{same_targets}
+use Rattle.core_copy.proofs.Close.{right_widening}
+use Rattle.core_copy.proofs.Fronts.{job_at_front, job_some, none_moved}
+use Rattle.core_copy.proofs.Inside.{right_room, target_inside}
+use Rattle.core_copy.proofs.Progress.{come_outside, job_ends, job_fails, job_goes_on, put_stays, reads_cell, stays_come}
+use Rattle.core_copy.proofs.Progress.{stays_out}
+use Rattle.core_copy.specs.JobRun.{JobRun, JobMayBegin, JobSteps, ReadsSector, WritesSector, begun_run, present_sector}
+use Rattle.core_copy.specs.JobRun.{source_spot, target_spot}
 use Rattle.core_copy.specs.Holding.{GoesOnIn, HoldsJob, IsTrusted}
 use Rattle.core_copy.proofs.Steps.{outs_by_step, present_inside}
 
@@ -45,7 +48,7 @@ run_expands uber done Drain right may = ⊎_elim (λ rests. absurd (none_valid (
 run_expands uber done (Chunk lo hi) right may =
     ⊎_elim (λ rests. absurd (none_moved (sym rests.2 ∙ may.0))) (λ widens. widens.0) right.reflow
 
--- so the job may begin.
+-- Law: A job that may run in the pool of a right uberblock may begin.
 pub right_begins : (uber : Uber) (done : ℕ) (job : Job) → IsRightUber uber → MayRun uber.reflow done job → JobMayBegin uber.reflow job
 right_begins uber done job right may =
     let expands = run_expands uber done job right may in
@@ -56,7 +59,7 @@ right_begins uber done job right may =
       may_run = subst (λ (front : ℕ). MayRun uber.reflow front job) (sym (job_at_front uber.reflow done job may)) may;
     }
 
--- A run that begins goes on in its pool,
+-- Law: A run that begins goes on in its pool.
 pub begun_goes_on : (reflow : Reflow) (done : ℕ) (job : Job) → JobMayBegin reflow job → IsFrontOf reflow done
     → MayRun reflow done job → GoesOnIn reflow done (begun_run reflow job)
 begun_goes_on reflow done job begins front may = record {
@@ -68,7 +71,7 @@ begun_goes_on reflow done job begins front may = record {
   made = omega arith;
 }
 
--- and over each step.
+-- Law: A run goes on in its pool over each of its steps.
 pub step_goes_on : (reflow : Reflow) (done : ℕ) (run stepped : JobRun) (before after : Point)
     → run.made < call_count run.reflow run.job → JobSteps run before stepped after
     → GoesOnIn reflow done run → GoesOnIn reflow done stepped
@@ -88,7 +91,7 @@ step_goes_on reflow done run stepped before after left steps goes = ⊎_elim
       made = omega (arith, left);
     })
 
--- The present sector is one of the job's,
+-- Law: The calls of a run that goes on are about sectors of its job.
 pub present_in : (reflow : Reflow) (done : ℕ) (run : JobRun) → GoesOnIn reflow done run → run.made < call_count run.reflow run.job
     → CopiesSector reflow run.job (present_sector run)
 present_in reflow done run goes left =
@@ -104,7 +107,7 @@ present_at_most reflow done run goes =
     let end = (same_targets run.reflow done run.job (present_sector run) reflow goes.moves).0 in
     omega (arith, some, end, goes.made)
 
--- which it reads at the run's source, and writes at its target.
+-- Law: A run reads a sector where its job reads it in the pool as it is by now.
 pub source_at : (reflow : Reflow) (done : ℕ) (run : JobRun) → GoesOnIn reflow done run
     → IsSource reflow run.job (present_sector run) (source_spot run).device (source_spot run).device_sector
 source_at reflow done run goes =
@@ -112,6 +115,7 @@ source_at reflow done run goes =
     (sym (same_targets run.reflow done run.job (present_sector run) reflow goes.moves).1)
     (record { device_is = refl; sector_is = refl })
 
+-- Law: A run writes a sector where its job writes it in the pool as it is by now.
 pub target_at : (reflow : Reflow) (done : ℕ) (run : JobRun) → GoesOnIn reflow done run
     → IsTarget reflow run.job (present_sector run) (target_spot run).device (target_spot run).device_sector
 target_at reflow done run goes =
@@ -119,7 +123,7 @@ target_at reflow done run goes =
     (sym (same_targets run.reflow done run.job (present_sector run) reflow goes.moves).2)
     (record { device_is = refl; sector_is = refl })
 
--- The bank of the pool is the run's.
+-- Law: A bank that has the pool has what a run of it calls.
 pub bank_of_run : (reflow : Reflow) (done : ℕ) (run : JobRun) (out : ℕ) (disk : Disk) → GoesOnIn reflow done run
     → HasPool reflow out disk → HasPool run.reflow out disk
 bank_of_run reflow done run out disk goes pool =
@@ -130,7 +134,7 @@ bank_of_run reflow done run out disk goes pool =
 
 -- ---- the begin
 
--- A run that begins holds each cell that is right at the front.
+-- Law: A run that begins holds each cell that is right at the front.
 pub run_begins : (reflow : Reflow) (done : ℕ) (job : Job) (point : Point) (excepted : Excepted) (cell : Cell)
     → RightAt point.disk.reads reflow done point.out excepted cell
     → HoldsJob reflow done (begun_run reflow job) point excepted cell
@@ -139,7 +143,7 @@ run_begins reflow done job point excepted cell right = record {
   held = λ turn. absurd (omega (arith, turn));
 }
 
--- Of a cell outside the job's sectors, as of a block that is stored beside it, no more is asked.
+-- Law: Of a cell outside the job's sectors a run holds no more than that it is right at the front.
 pub run_beside : (reflow : Reflow) (done : ℕ) (run : JobRun) (point : Point) (excepted : Excepted) (cell : Cell)
     → GoesOnIn reflow done run
     → (cell.sector < job_begin run.job) ⊎ (job_end reflow run.job ≤ cell.sector)
@@ -243,7 +247,7 @@ write_holds reflow done run stepped before after excepted cell goes left tells p
     told : IsSome (before.disk.reads (target_spot run).device (target_spot run).device_sector)
     told = tells _ _ (pool.devices _ on.0 writes.written.called.in_use) (omega (arith, on.1, pool.sectors))
 
--- Each step keeps what a run holds.
+-- Law: A step keeps what a run holds of each cell, whether its call comes off or not.
 pub run_steps : (reflow : Reflow) (done : ℕ) (run stepped : JobRun) (before after : Point) (excepted : Excepted) (cell : Cell)
     → GoesOnIn reflow done run → run.made < call_count run.reflow run.job → Tells before.disk → HasPool reflow before.out before.disk
     → IsClose reflow cell → cell.sector < cell.row_end → IsTrusted run excepted → JobSteps run before stepped after
@@ -258,7 +262,7 @@ run_steps reflow done run stepped before after excepted cell goes left tells poo
 
 -- ---- the end, and calls beside it
 
--- Once all calls were made, each cell is right at the front that the job leaves.
+-- Law: Once all calls were made each cell is right at the front that the job leaves.
 pub run_ends : (reflow : Reflow) (done : ℕ) (run : JobRun) (point : Point) (excepted : Excepted) (cell : Cell)
     → GoesOnIn reflow done run → run.made ≡ call_count run.reflow run.job
     → HoldsJob reflow done run point excepted cell
@@ -269,7 +273,7 @@ run_ends reflow done run point excepted cell goes all holds =
     job_ends reflow done run.job point.disk point.out excepted cell goes.may_run
     (subst (λ (n : ℕ). HasComeTo reflow done run.job n point.disk point.out excepted cell) (omega (arith, all, some, end)) holds.come)
 
--- Other calls that leave what is read of the cell so far, and devices that go out, leave what a run holds.
+-- Law: Other calls leave what a run holds of a cell, where they leave what is read of it on devices in use.
 pub run_stays : (reflow : Reflow) (done : ℕ) (run : JobRun) (before after : Point) (excepted : Excepted) (cell : Cell)
     → IsWithin before.out after.out
     → ((device device_sector : ℕ) → IsPlaceSoFar reflow done run.job (present_sector run) cell device device_sector
@@ -282,7 +286,7 @@ run_stays reflow done run before after excepted cell within same holds = record 
   held = holds.held;
 }
 
--- So does a put's write of another sector to a place where it is required.
+-- Law: A put's write of another sector, to where that is required, leaves what a run holds of a cell.
 pub run_stays_by_put : (reflow : Reflow) (done : ℕ) (run : JobRun) (row_end other : ℕ) (bytes : List ℕ)
     (result : Result (Unit {0}) Failed) (before after : Point) (excepted : Excepted) (cell : Cell) (device device_sector : ℕ)
     → GoesOnIn reflow done run → IsClose reflow cell → row_end ≤ other + reflow.from → other < sectors_of reflow

@@ -7,8 +7,8 @@ use Rattle.range_locks.specs.declared.hold.Hold.{Hold}
 use Rattle.core_state.specs.Committing.{Point}
 use Rattle.core_state.specs.Whole.{Cell, Excepted}
 use Rattle.mark_choice.specs.CommitChoice.{IsCommitChoice}
-use Rattle.job_copy.specs.Progress.{MovesMark}
-use Rattle.job_copy.proofs.Beside.{come_behind, goes_on_behind, still_may_run}
+use Rattle.core_copy.specs.Progress.{MovesMark}
+use Rattle.core_copy.proofs.Beside.{come_behind, goes_on_behind, still_may_run}
 use Rattle.core_copy.specs.JobRun.{JobRun, present_sector}
 use Rattle.core_copy.specs.Holding.{GoesOnIn, HoldsJob}
 
@@ -31,7 +31,7 @@ moves_then first mid last done one two =
       is = then.is;
     }
 
--- The run goes on in the pool whose mark has gone on,
+-- Law: Behind the answer of a commit that was chosen beside it, a run goes on in the pool.
 pub moved_goes_on : (reflow : Reflow) (done : ℕ) (run : JobRun) (chosen : Reflow) → MovesMark reflow done chosen
     → GoesOnIn reflow done run → GoesOnIn chosen done run
 moved_goes_on reflow done run chosen moves goes =
@@ -45,7 +45,7 @@ moved_goes_on reflow done run chosen moves goes =
       made = goes.made;
     }
 
--- and holds what it held.
+-- Law: Behind that answer a run holds each cell of the pool that it held.
 pub moved_holds : (reflow : Reflow) (done : ℕ) (run : JobRun) (holds : List Hold) (chosen : Reflow) (point : Point)
     (excepted : Excepted) (cell : Cell) → GoesOnIn reflow done run → IsCommitChoice reflow done holds chosen
     → cell.sector < sectors_of reflow → HoldsJob reflow done run point excepted cell

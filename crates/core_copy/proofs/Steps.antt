@@ -1,5 +1,6 @@
 -- The call that comes next: it can be made, and making it is the job's step.
-use Rattle.std.proofs.Common.{◌≡◌, ◌≢◌, ◌⊎◌, inl, inr, ⊎_elim, ℕ, ◌+◌, ◌%◌, ◌^◌, ◌<◌, Bool, true, false, List, Option, Some, None, refl, sym, ◌∙◌, ap, subst, arith}
+use Rattle.std.proofs.Common.{◌≡◌, ◌≢◌, ◌⊎◌, inl, inr, ⊎_elim, ℕ, ◌+◌, ◌%◌, ◌^◌, ◌<◌, Bool, true, false, List, Option}
+use Rattle.std.proofs.Common.{Some, None, refl, sym, ◌∙◌, ap, subst, arith}
 use Rattle.std.specs.Prelude.{◌==◌, IsSome, nat_lt, if◌then◌else◌}
 use Rattle.std.proofs.lemmas.Bool.Decides.{nat_tests}
 use Rattle.std.proofs.lemmas.Nat.{pow_pos}
@@ -11,16 +12,17 @@ use Rattle.reflow_copier.specs.declared.job.CallKind.TheVariants.{Read, Write}
 use Rattle.reflow_copier.specs.Jobs.{job_begin, job_call_of, read_call, source_of, target_of, write_call}
 use Rattle.core_state.specs.Committing.{Point}
 use Rattle.core_state.proofs.Calls.{true_false}
-use Rattle.core_client.specs.declared.spot.Spot.{Spot}
-use Rattle.core_client.specs.Reading.{IsRead}
-use Rattle.core_client.proofs.Gotten.{got_by_step}
-use Rattle.core_client.specs.Pool.{HasPool}
-use Rattle.core_client.specs.Outs.{OnlyFailedGoOut}
-use Rattle.core_client.proofs.Outs.{outs_called}
-use Rattle.core_copy.proofs.Below.{below_by_call}
-use Rattle.job_copy.specs.Progress.{CopiesSector, IsOnPool, call_behind, call_count}
-use Rattle.job_copy.proofs.Inside.{source_inside, target_inside}
-use Rattle.core_copy.specs.JobRun.{HoldsRead, IsCallable, IsJobRun, IsSpotWritten, JobRun, JobSteps, MakesCall, present_sector, source_spot, spot_called, target_spot}
+use Rattle.core_state.specs.declared.spot.Spot.{Spot}
+use Rattle.core_state.specs.SpotReads.{IsRead}
+use Rattle.core_state.proofs.SpotReads.{got_by_step}
+use Rattle.core_state.specs.PoolBank.{HasPool}
+use Rattle.core_state.specs.Outs.{OnlyFailedGoOut}
+use Rattle.core_state.proofs.Outs.{outs_called}
+use Rattle.core_state.proofs.Below.{below_by_call}
+use Rattle.core_copy.specs.Progress.{CopiesSector, IsOnPool, call_behind, call_count}
+use Rattle.core_copy.proofs.Inside.{source_inside, target_inside}
+use Rattle.core_copy.specs.JobRun.{HoldsRead, IsCallable, IsJobRun, IsSpotWritten, JobRun, JobSteps, MakesCall}
+use Rattle.core_copy.specs.JobRun.{present_sector, source_spot, spot_called, target_spot}
 
 -- The next call reads the present sector at its source, or writes it at its target.
 pub record IsReadCall (run : JobRun) (call : JobCall) : Type 0 where

@@ -2,11 +2,11 @@
 use Rattle.std.specs.Prelude.{◌≡◌, ℕ, ◌%◌, ◌<◌, ◌≤◌, List, Some, Contains}
 use Rattle.reflow_mark.specs.declared.reflow.Reflow.{Reflow}
 use Rattle.reflow_mark.specs.Reflow.{scratch_end, sectors_of}
-use Rattle.reflow_band.specs.Band.{IsFrontOf, IsWidening}
+use Rattle.shadow_write.specs.Band.{IsFrontOf, IsWidening}
 use Rattle.core_state.specs.Committing.{Point}
 use Rattle.core_state.specs.JobTurns.{MayRun}
 use Rattle.core_state.specs.Whole.{Cell, Excepted}
-use Rattle.job_copy.specs.Progress.{HasComeTo, MovesMark, call_count}
+use Rattle.core_copy.specs.Progress.{HasComeTo, MovesMark, call_count}
 use Rattle.core_copy.specs.JobRun.{JobRun, present_sector, source_spot}
 
 -- The run goes on in a pool of this reflow and front: since the job began its mark may have gone on, and nothing else.

@@ -8,13 +8,13 @@ use Rattle.reflow_copier.specs.declared.job.Job.{Job}
 use Rattle.reflow_copier.specs.declared.job.JobCall.{JobCall}
 use Rattle.reflow_copier.specs.declared.job.CallKind.TheVariants.{Read}
 use Rattle.reflow_copier.specs.Jobs.{job_begin, source_of, target_of}
-use Rattle.reflow_band.specs.Band.{IsWidening}
+use Rattle.shadow_write.specs.Band.{IsWidening}
 use Rattle.uberblock_ring.specs.Devices.{has_device}
 use Rattle.core_state.specs.Committing.{Point, Called}
 use Rattle.core_state.specs.JobTurns.{MayRun}
-use Rattle.core_client.specs.declared.spot.Spot.{Spot}
-use Rattle.core_client.specs.Reading.{IsRead, spot_at}
-use Rattle.job_copy.specs.Progress.{call_count}
+use Rattle.core_state.specs.declared.spot.Spot.{Spot}
+use Rattle.core_state.specs.SpotReads.{IsRead, spot_at}
+use Rattle.core_copy.specs.Progress.{call_count}
 
 -- a job under way: the reflow at its begin, the device calls that it has made, and what was read of its present sector
 pub record JobRun : Type 0 where

@@ -1,2 +1,5 @@
+pub mod Around
+pub mod Behind
+pub mod Progress
 pub mod JobRun
 pub mod Holding

@@ -2,11 +2,11 @@
 ghost use Rattle.std.specs.Prelude.{◌≢◌, IsSome};
 ghost use Rattle.reflow_copier.specs.declared.job.CallKind.TheVariants as kind;
 ghost use Rattle.core_state.specs.Committing.{point_of};
-ghost use Rattle.core_client.specs.Reading.{IsRead};
+ghost use Rattle.core_state.specs.SpotReads.{IsRead};
 ghost use Rattle.core_copy.specs.JobRun.{IsCallable, IsSpotWritten, MakesCall, spot_called};
 
 use bank_trait::Bank;
-use core_client::Spot;
+use core_state::Spot;
 use reflow_copier::{CallKind, JobCall};
 use uberblock_ring::DeviceSet;
 

@@ -1,14 +1,14 @@
 // A copy job that makes one device call a step, so that other calls may come between.
 ghost use Rattle.std.specs.Prelude.{◌≡◌, ◌^◌, ◌<◌, ◌≤◌, ◌↔◌, IfOk, IsTrue, false};
 ghost use Rattle.core_state.specs.Committing.{point_of};
-ghost use Rattle.core_client.specs.Outs.{OnlyFailedGoOut};
-ghost use Rattle.core_client.specs.Pool.{HasPool};
-ghost use Rattle.job_copy.specs.Progress.{call_behind, call_count};
+ghost use Rattle.core_state.specs.Outs.{OnlyFailedGoOut};
+ghost use Rattle.core_state.specs.PoolBank.{HasPool};
+ghost use Rattle.core_copy.specs.Progress.{call_behind, call_count};
 ghost use Rattle.core_copy.specs.JobRun.{HoldsRead, JobMayBegin, JobSteps, begun_run};
 
 use crate::calling::make;
+use crate::next_call;
 use bank_trait::Bank;
-use job_copy::next_call;
 use reflow_copier::{Job, JobCall};
 use reflow_mark::Reflow;
 use std::alloc::{AllocError, Global};

@@ -1,17 +1,18 @@
-//! The device calls of a copy job, one a step, so that other calls may come between.
+//! The copying of sectors onto a device that was added: jobs, their device calls, and the front that they leave.
 //!
-//! A job reads a sector of the pool and then writes it, sector by sector. A device whose call fails is
-//! out from then on, and a job makes no call while a device is out. Read `specs/JobRun.antt` for what a
-//! step does, and `specs/Holding.antt` for what a run keeps of a cell; `laws` says that it does. Stands
-//! on `job_copy` and `core_client`.
+//! A job (Fill, Drain or a chunk) reads a sector of the pool where it is right, and writes it where no group that a stop
+//! may leave asks for anything: such a write is spare (`specs/Around.antt`). One call is a step, so that other calls may
+//! come between (`JobRun`, `specs/JobRun.antt`). A device whose call fails is out from then on, and a job makes no call
+//! while a device is out. What a job keeps of each cell on its way: `specs/Progress.antt`, `specs/Holding.antt`. What a
+//! commit that moves the mark asks for is right already, and where the front is behind its answer: `specs/Behind.antt`.
+//! Stands on `reflow_copier`, `mark_choice` and `core_state`.
 #![tactic(auto)]
 
 mod calling;
+mod front;
+mod job_plan;
 mod job_run;
-mod laws;
 
+pub use front::front_behind;
+pub use job_plan::{due_job, next_call, sector_of_call};
 pub use job_run::JobRun;
-pub use laws::{
-    commit_leaves_run, job_run_begins, job_run_calls, job_run_ends, job_run_stays, job_run_steps,
-    run_leaves_choice,
-};

@@ -1,5 +1,6 @@
 -- How the votes are cast, device by device.
-use Rattle.std.proofs.Common.{◌≡◌, ◌⊎◌, inl, inr, ⊎_elim, ℕ, ◌+◌, ◌<◌, ◌≤◌, false, List, [], ◌∷◌, ◌++◌, length, sym, ◌∙◌, ap, subst, arith, get_or}
+use Rattle.std.proofs.Common.{◌≡◌, ◌⊎◌, inl, inr, ⊎_elim, ℕ, ◌+◌, ◌<◌, ◌≤◌, false, List, [], ◌∷◌, ◌++◌, length, sym}
+use Rattle.std.proofs.Common.{◌∙◌, ap, subst, arith, get_or}
 use Rattle.std.specs.Prelude.{All, AllPairs, Contains, ◌≢◌}
 use Rattle.std.proofs.lemmas.Bool.{cases_eq, cases_lt}
 use Rattle.std.proofs.lemmas.List.{get_or_default}
@@ -8,107 +9,107 @@ use Rattle.std.proofs.lemmas.List.Quantifiers.{all_pairs_push}
 use Rattle.uberblock_ring.specs.Devices.{has_device}
 use Rattle.uberblock_ring.specs.Uberblock.{Uber}
 use Rattle.uberblock_ring.specs.Valid.{IsRightUber}
-use Rattle.core_open.specs.declared.uber_copy.UberCopy.{UberCopy}
+use Rattle.core_open.specs.declared.ring_uber.RingUber.{RingUber}
 use Rattle.core_open.specs.declared.votes.Vote.{Vote}
-use Rattle.core_open.specs.Copies.{AreByGroup, AreRight}
+use Rattle.core_open.specs.RingUbers.{AreByGroup, AreRight}
 use Rattle.core_open.specs.Votes.{AreVotes, IsVote}
-use Rattle.core_open.proofs.ReadTo.{copy_on}
+use Rattle.core_open.proofs.ReadTo.{ring_uber_on}
 use Rattle.core_open.proofs.Voters.{vote_by}
 
--- The first copy of a device has its greatest group.
-pub first_vote : (copies : List UberCopy) (place device pool : ℕ) (copy : UberCopy) → AreByGroup copies
-    → place < length copies → copy ≡ get_or copies place copy → copy.device ≡ device → pool ≡ copy.uber.pool
-    → ((k : ℕ) → k < place → (d : UberCopy) → (get_or copies k d).device ≢ device)
-    → IsVote copies (vote_by pool device)
-first_vote copies place device pool copy order below is on of_pool before = record {
-  uber = copy.uber;
+-- The first uberblock of a device has its greatest group.
+pub first_vote : (ubers : List RingUber) (place device pool : ℕ) (ring_uber : RingUber) → AreByGroup ubers
+    → place < length ubers → ring_uber ≡ get_or ubers place ring_uber → ring_uber.device ≡ device → pool ≡ ring_uber.uber.pool
+    → ((k : ℕ) → k < place → (d : RingUber) → (get_or ubers k d).device ≢ device)
+    → IsVote ubers (vote_by pool device)
+first_vote ubers place device pool ring_uber order below is on of_pool before = record {
+  uber = ring_uber.uber;
   listed = (
     place,
     below,
-    get_or_default copies place (copy_on device copy.uber) copy below ∙ sym is
-        ∙ (λ i. copy_on (on i) copy.uber),
+    get_or_default ubers place (ring_uber_on device ring_uber.uber) ring_uber below ∙ sym is
+        ∙ (λ i. ring_uber_on (on i) ring_uber.uber),
   );
   greatest = λ other listed. by other listed.0 listed.1 listed.2 (cases_lt listed.0 place) (cases_eq place listed.0);
   pool_is = sym of_pool;
 }
   where
-    by : (other : Uber) (k : ℕ) → k < length copies → get_or copies k (copy_on device other) ≡ copy_on device other
+    by : (other : Uber) (k : ℕ) → k < length ubers → get_or ubers k (ring_uber_on device other) ≡ ring_uber_on device other
         → (k < place) ⊎ (place ≤ k) → (place ≡ k) ⊎ (place ≡ k → ⊥)
-        → other.group ≤ copy.uber.group
+        → other.group ≤ ring_uber.uber.group
     by other k low there (inl early) same =
-        absurd (before k early (copy_on device other) (ap (λ (c : UberCopy). c.device) there))
+        absurd (before k early (ring_uber_on device other) (ap (λ (c : RingUber). c.device) there))
     by other k low there (inr late) (inl same) =
-        let one : copy ≡ copy_on device other = is ∙ ap (λ n. get_or copies n copy) same
-        ∙ get_or_default copies k copy (copy_on device other) low ∙ there in
-        omega (arith, ap (λ (c : UberCopy). c.uber.group) one)
+        let one : ring_uber ≡ ring_uber_on device other = is ∙ ap (λ n. get_or ubers n ring_uber) same
+        ∙ get_or_default ubers k ring_uber (ring_uber_on device other) low ∙ there in
+        omega (arith, ap (λ (c : RingUber). c.uber.group) one)
     by other k low there (inr late) (inr apart) =
-        let here : get_or copies k copy ≡ copy_on device other =
-        get_or_default copies k copy (copy_on device other) low ∙ there in
-        subst (λ (c : UberCopy). c.uber.group ≤ copy.uber.group) here
-        (subst (λ (c : UberCopy). (get_or copies k copy).uber.group ≤ c.uber.group) (sym is)
+        let here : get_or ubers k ring_uber ≡ ring_uber_on device other =
+        get_or_default ubers k ring_uber (ring_uber_on device other) low ∙ there in
+        subst (λ (c : RingUber). c.uber.group ≤ ring_uber.uber.group) here
+        (subst (λ (c : RingUber). (get_or ubers k ring_uber).uber.group ≤ c.uber.group) (sym is)
         (⊎_elim (λ less. omega (arith, less)) (λ level. omega (arith, level.0))
-        (order place k copy (omega (arith, late, apart)) low)))
+        (order place k ring_uber (omega (arith, late, apart)) low)))
 
 -- The votes of the devices below this one.
-pub record AreCast (copies : List UberCopy) (silent device : ℕ) (votes : List Vote) : Type 0 where
-  pub each : All (λ vote. (has_device silent vote.device ≡ false) × IsVote copies vote) votes
-  pub every : (copy : UberCopy) → copy.device < device → has_device silent copy.device ≡ false → Contains copies copy
-      → (pool : ℕ) × Contains votes (vote_by pool copy.device)
+pub record AreCast (ubers : List RingUber) (silent device : ℕ) (votes : List Vote) : Type 0 where
+  pub each : All (λ vote. (has_device silent vote.device ≡ false) × IsVote ubers vote) votes
+  pub every : (ring_uber : RingUber) → ring_uber.device < device → has_device silent ring_uber.device ≡ false → Contains ubers ring_uber
+      → (pool : ℕ) × Contains votes (vote_by pool ring_uber.device)
   pub order : AllPairs (λ one other. one.device < other.device) votes
   pub below : All (λ vote. vote.device < device) votes
 
 -- No device was asked yet.
-pub cast_none : (copies : List UberCopy) (silent : ℕ) → AreCast copies silent 0 []
-cast_none copies silent = record {
+pub cast_none : (ubers : List RingUber) (silent : ℕ) → AreCast ubers silent 0 []
+cast_none ubers silent = record {
   each = All-nil _;
-  every = λ copy low. absurd (omega (arith, low));
+  every = λ ring_uber low. absurd (omega (arith, low));
   order = λ i j d low high. absurd (omega (arith, high));
   below = All-nil _;
 }
 
-module _ (copies : List UberCopy) (silent device : ℕ) (votes : List Vote) (so_far : AreCast copies silent device votes) where
+module _ (ubers : List RingUber) (silent device : ℕ) (votes : List Vote) (so_far : AreCast ubers silent device votes) where
   wider : All (λ (vote : Vote). vote.device < device + 1) votes
   wider k d low = omega (arith, so_far.below k d low)
 
   -- A device without a vote,
-  pub cast_past : ((copy : UberCopy) → Contains copies copy → has_device silent copy.device ≡ false
-      → copy.device ≡ device
+  pub cast_past : ((ring_uber : RingUber) → Contains ubers ring_uber → has_device silent ring_uber.device ≡ false
+      → ring_uber.device ≡ device
       → ⊥)
-      → AreCast copies silent (device + 1) votes
+      → AreCast ubers silent (device + 1) votes
   cast_past none = record {
     each = so_far.each;
-    every = λ copy low works listed. ⊎_elim
-        (λ (less : copy.device < device). so_far.every copy less works listed)
-        (λ (above : device ≤ copy.device). absurd (none copy listed works (omega (arith, low, above))))
-        (cases_lt copy.device device);
+    every = λ ring_uber low works listed. ⊎_elim
+        (λ (less : ring_uber.device < device). so_far.every ring_uber less works listed)
+        (λ (above : device ≤ ring_uber.device). absurd (none ring_uber listed works (omega (arith, low, above))))
+        (cases_lt ring_uber.device device);
     order = so_far.order;
     below = wider;
   }
 
   -- and one with this vote.
-  pub cast_more : has_device silent device ≡ false → (vote : Vote) → vote.device ≡ device → IsVote copies vote
-      → AreCast copies silent (device + 1) (votes ++ vote ∷ [])
+  pub cast_more : has_device silent device ≡ false → (vote : Vote) → vote.device ≡ device → IsVote ubers vote
+      → AreCast ubers silent (device + 1) (votes ++ vote ∷ [])
   cast_more works vote here is = record {
-    each = All-push (λ (v : Vote). (has_device silent v.device ≡ false) × IsVote copies v) votes vote so_far.each
+    each = All-push (λ (v : Vote). (has_device silent v.device ≡ false) × IsVote ubers v) votes vote so_far.each
         (subst (λ d. has_device silent d ≡ false) (sym here) works, is);
-    every = λ copy low quiet listed. ⊎_elim
-        (λ (less : copy.device < device). let voted = so_far.every copy less quiet listed in
-        (voted.0, Contains-append_left votes (vote ∷ []) (vote_by voted.0 copy.device) voted.1))
-        (λ (above : device ≤ copy.device).
-        let same : copy.device ≡ device = omega (arith, low, above) in
-        let on : vote ≡ vote_by vote.pool copy.device = λ i. vote_by vote.pool ((here ∙ sym same) i) in
+    every = λ ring_uber low quiet listed. ⊎_elim
+        (λ (less : ring_uber.device < device). let voted = so_far.every ring_uber less quiet listed in
+        (voted.0, Contains-append_left votes (vote ∷ []) (vote_by voted.0 ring_uber.device) voted.1))
+        (λ (above : device ≤ ring_uber.device).
+        let same : ring_uber.device ≡ device = omega (arith, low, above) in
+        let on : vote ≡ vote_by vote.pool ring_uber.device = λ i. vote_by vote.pool ((here ∙ sym same) i) in
         (vote.pool, subst (λ (v : Vote). Contains (votes ++ vote ∷ []) v) on (Contains-push votes vote)))
-        (cases_lt copy.device device);
+        (cases_lt ring_uber.device device);
     order = all_pairs_push (λ (one other : Vote). one.device < other.device) votes vote so_far.order
         (λ k d low. omega (arith, here, so_far.below k d low));
     below = All-push (λ (v : Vote). v.device < device + 1) votes vote wider (omega (arith, here));
   }
 
   -- All were asked.
-  pub cast_all : AreRight device copies → AreVotes copies silent votes
+  pub cast_all : AreRight device ubers → AreVotes ubers silent votes
   cast_all right = record {
     each = so_far.each;
-    every = λ copy works listed. so_far.every copy
-        (All-contains (λ (c : UberCopy). (c.device < device) × IsRightUber c.uber) copies copy right listed).0 works listed;
+    every = λ ring_uber works listed. so_far.every ring_uber
+        (All-contains (λ (c : RingUber). (c.device < device) × IsRightUber c.uber) ubers ring_uber right listed).0 works listed;
     order = so_far.order;
   }

@@ -1,5 +1,6 @@
 -- From the candidates of the chosen group to what an opening has to know.
-use Rattle.std.proofs.Common.{◌≡◌, ◌≢◌, ◌⊎◌, inl, inr, ⊎_elim, ℕ, ◌<◌, ◌≤◌, List, [], ◌∷◌, Some, true, false, Bool, eqb, eqb-true, eq-eqb, refl, sym, ◌∙◌, subst, arith}
+use Rattle.std.proofs.Common.{◌≡◌, ◌≢◌, ◌⊎◌, inl, inr, ⊎_elim, ℕ, ◌<◌, ◌≤◌, List, [], ◌∷◌, Some, true, false, Bool, eqb}
+use Rattle.std.proofs.Common.{eqb-true, eq-eqb, refl, sym, ◌∙◌, subst, arith}
 use Rattle.std.specs.Prelude.{Contains, slice_get, ◌↔◌}
 use Rattle.std.specs.List.{Any, list_any}
 use Rattle.std.proofs.lemmas.Bool.{cases_Bool, false≢true}
@@ -11,61 +12,61 @@ use Rattle.uberblock_ring.specs.Devices.{has_device}
 use Rattle.uberblock_ring.specs.Uberblock.{Uber}
 use Rattle.core_state.specs.Shown.{Shape, Shows, IsCandidate, read_devices}
 use Rattle.core_state.specs.Choosing.{IsBlank, IsChosen, IsChosenPool, IsListedOut, IsOutAtOpening}
-use Rattle.core_open.specs.declared.uber_copy.UberCopy.{UberCopy}
+use Rattle.core_open.specs.declared.ring_uber.RingUber.{RingUber}
 use Rattle.core_open.specs.Candidates.{AreNewest}
-use Rattle.core_open.specs.Copies.{AreShown, AreTaken}
+use Rattle.core_open.specs.RingUbers.{AreShown, AreTaken}
 use Rattle.core_open.specs.Finding.{ShowsTwin}
 use Rattle.core_open.specs.Sets.{IsNewDevice, IsOutBy, ShowPool, StandOn}
 use Rattle.core_open.proofs.Newest.{of_one_group}
-use Rattle.core_open.proofs.ReadTo.{copy_on}
+use Rattle.core_open.proofs.ReadTo.{ring_uber_on}
 
--- The first copy is one of them.
-pub first_of : (copies : List UberCopy) (first : UberCopy) → slice_get copies 0 ≡ Some first → Contains copies first
+-- The first uberblock is one of them.
+pub first_of : (ubers : List RingUber) (first : RingUber) → slice_get ubers 0 ≡ Some first → Contains ubers first
 first_of [] first nothing = absurd (cc)
-first_of (one ∷ copies) first there = let here : one ≡ first = cc in (0, omega arith, here)
+first_of (one ∷ ubers) first there = let here : one ≡ first = cc in (0, omega arith, here)
 
--- A copy stands on the device, or none does.
-stand_on_unless_none : (copies : List UberCopy) (device : ℕ)
-    → ((StandOn copies device → ⊥) → ⊥) → StandOn copies device
-stand_on_unless_none copies device not_none = ⊎_elim
-    (λ (some : list_any on_it copies ≡ true). let any = Any-from_list_any on_it copies some in
+-- An uberblock stands on the device, or none does.
+stand_on_unless_none : (ubers : List RingUber) (device : ℕ)
+    → ((StandOn ubers device → ⊥) → ⊥) → StandOn ubers device
+stand_on_unless_none ubers device not_none = ⊎_elim
+    (λ (some : list_any on_it ubers ≡ true). let any = Any-from_list_any on_it ubers some in
     (any.0, any.1, any.2, any.3, eqb-true any.1.device device any.4))
-    (λ (none : list_any on_it copies ≡ false). absurd (not_none (λ any. false≢true
-    (sym none ∙ list_any-from_Any on_it copies
+    (λ (none : list_any on_it ubers ≡ false). absurd (not_none (λ any. false≢true
+    (sym none ∙ list_any-from_Any on_it ubers
     (any.0, any.1, any.2, any.3, eq-eqb any.1.device device any.4)))))
-    (cases_Bool (list_any on_it copies))
+    (cases_Bool (list_any on_it ubers))
   where
-    on_it : UberCopy → Bool
-    on_it copy = eqb copy.device device
+    on_it : RingUber → Bool
+    on_it ring_uber = eqb ring_uber.device device
 
-module _ (shape : Shape) (silent : ℕ) (image : Image) (all candidates : List UberCopy) (entries : List IndexEntry)
-    (first : UberCopy) (is : slice_get candidates 0 ≡ Some first)
+module _ (shape : Shape) (silent : ℕ) (image : Image) (all candidates : List RingUber) (entries : List IndexEntry)
+    (first : RingUber) (is : slice_get candidates 0 ≡ Some first)
     (shown : AreShown shape silent image (read_devices shape) all)
     (newest : AreNewest shape silent image first.uber.pool candidates entries) where
   -- Each candidate is of the first one's group, and on no lower device.
-  after_first : (copy : UberCopy) → Contains candidates copy
-      → (first.uber.group ≡ copy.uber.group) × (first.device ≤ copy.device)
-  after_first copy listed = All-contains
-      (λ (c : UberCopy). (first.uber.group ≡ c.uber.group) × (first.device ≤ c.device)) candidates copy
+  after_first : (ring_uber : RingUber) → Contains candidates ring_uber
+      → (first.uber.group ≡ ring_uber.uber.group) × (first.device ≤ ring_uber.device)
+  after_first ring_uber listed = All-contains
+      (λ (c : RingUber). (first.uber.group ≡ c.uber.group) × (first.device ≤ c.device)) candidates ring_uber
       (of_one_group candidates first is newest.order) listed
 
   first_listed : Contains candidates first
   first_listed = first_of candidates first is
 
-  sound : (copy : UberCopy) → Contains candidates copy
-      → (has_device silent copy.device ≡ false)
-      × ((listed : List IndexEntry) × IsCandidate shape silent first.uber.pool image copy.device copy.uber listed)
-  sound copy listed = All-contains (λ (c : UberCopy). (has_device silent c.device ≡ false)
-      × ((listed : List IndexEntry) × IsCandidate shape silent first.uber.pool image c.device c.uber listed)) candidates copy
+  sound : (ring_uber : RingUber) → Contains candidates ring_uber
+      → (has_device silent ring_uber.device ≡ false)
+      × ((listed : List IndexEntry) × IsCandidate shape silent first.uber.pool image ring_uber.device ring_uber.uber listed)
+  sound ring_uber listed = All-contains (λ (c : RingUber). (has_device silent c.device ≡ false)
+      × ((listed : List IndexEntry) × IsCandidate shape silent first.uber.pool image c.device c.uber listed)) candidates ring_uber
       newest.each listed
 
   -- A candidate of that group is one of them.
   of_group : (device : ℕ) (uber : Uber) (listed : List IndexEntry) → has_device silent device ≡ false
       → IsCandidate shape silent first.uber.pool image device uber listed → uber.group ≡ first.uber.group
-      → Contains candidates (copy_on device uber)
+      → Contains candidates (ring_uber_on device uber)
   of_group device uber listed works candidate level = ⊎_elim
-      (λ (there : Contains candidates (copy_on device uber)). there)
-      (λ (above : (copy : UberCopy) × Contains candidates copy × (uber.group < copy.uber.group)).
+      (λ (there : Contains candidates (ring_uber_on device uber)). there)
+      (λ (above : (ring_uber : RingUber) × Contains candidates ring_uber × (uber.group < ring_uber.uber.group)).
       absurd (omega (arith, above.2, level, (after_first above.0 above.1).0)))
       (newest.every device uber listed works candidate)
 
@@ -76,30 +77,30 @@ module _ (shape : Shape) (silent : ℕ) (image : Image) (all candidates : List U
     reads = (sound first first_listed).0;
     candidate = newest.first first is;
     first = λ other later listed works candidate. ⊎_elim
-        (λ (there : Contains candidates (copy_on other later)). let after = after_first (copy_on other later) there in
+        (λ (there : Contains candidates (ring_uber_on other later)). let after = after_first (ring_uber_on other later) there in
         inr (sym after.0, after.1))
-        (λ (above : (copy : UberCopy) × Contains candidates copy × (later.group < copy.uber.group)).
+        (λ (above : (ring_uber : RingUber) × Contains candidates ring_uber × (later.group < ring_uber.uber.group)).
         inl (omega (arith, above.2, (after_first above.0 above.1).0)))
         (newest.every other later listed works candidate);
   }
 
-  any_of : (P : UberCopy → Type 0) (list : List UberCopy) (copy : UberCopy) → Contains list copy → P copy → Any P list
-  any_of P list copy (k, low, there) has = (k, copy, low, there, has)
+  any_of : (P : RingUber → Type 0) (list : List RingUber) (ring_uber : RingUber) → Contains list ring_uber → P ring_uber → Any P list
+  any_of P list ring_uber (k, low, there) has = (k, ring_uber, low, there, has)
 
   -- What is out by the lists is out at the opening,
   out_by : (taken : ℕ) → AreTaken shape silent image (read_devices shape) taken → (device : ℕ)
       → IsOutBy shape.devices silent taken all candidates first.uber device
       → IsListedOut shape silent image first.uber device ⊎ ((has_device silent device ≡ true)
       ⊎ ((shape.devices ≤ device) ⊎ IsBlank shape image first.uber device))
-  out_by taken marks device (inl (k, copy, low, there, out)) =
-      let listed : Contains candidates copy = (k, low, there) in
-      let good = sound copy listed in inl (record {
-        other = copy.device;
+  out_by taken marks device (inl (k, ring_uber, low, there, out)) =
+      let listed : Contains candidates ring_uber = (k, low, there) in
+      let good = sound ring_uber listed in inl (record {
+        other = ring_uber.device;
         reads = good.0;
-        twin = copy.uber;
+        twin = ring_uber.uber;
         entries = good.1.0;
         candidate = good.1.1;
-        group = sym (after_first copy listed).0;
+        group = sym (after_first ring_uber listed).0;
         out = out;
       })
   out_by taken marks device (inr (inl quiet)) = inr (inl quiet)
@@ -108,7 +109,7 @@ module _ (shape : Shape) (silent : ℕ) (image : Image) (all candidates : List U
       (λ quiet. inr (inl quiet))
       (λ works. inr (inr (inr (record {
         none = λ other shows of_pool. nothing (any_of
-            (λ (copy : UberCopy). (copy.device ≡ device) × (copy.uber.pool ≡ first.uber.pool)) all (copy_on device other)
+            (λ (ring_uber : RingUber). (ring_uber.device ≡ device) × (ring_uber.uber.pool ≡ first.uber.pool)) all (ring_uber_on device other)
             (shown.every device other shows.device_in works shows) (refl, of_pool));
         taken_if_new = λ none same. marks.each device (old (none, same));
       }))))
@@ -119,8 +120,8 @@ module _ (shape : Shape) (silent : ℕ) (image : Image) (all candidates : List U
       → IsListedOut shape silent image first.uber device ⊎ ((has_device silent device ≡ true)
       ⊎ ((shape.devices ≤ device) ⊎ IsBlank shape image first.uber device))
       → IsOutBy shape.devices silent taken all candidates first.uber device
-  by_out taken marks device (inl listed) = inl (any_of (λ (copy : UberCopy). has_device copy.uber.out device ≡ true) candidates
-      (copy_on listed.other listed.twin)
+  by_out taken marks device (inl listed) = inl (any_of (λ (ring_uber : RingUber). has_device ring_uber.uber.out device ≡ true) candidates
+      (ring_uber_on listed.other listed.twin)
       (of_group listed.other listed.twin listed.entries listed.reads listed.candidate listed.group) listed.out)
   by_out taken marks device (inr (inl quiet)) = inr (inl quiet)
   by_out taken marks device (inr (inr (inl none))) = inr (inr (inl none))
@@ -128,10 +129,10 @@ module _ (shape : Shape) (silent : ℕ) (image : Image) (all candidates : List U
       (λ quiet. inr (inl quiet))
       (λ works. inr (inr (inr (
         (λ (any : ShowPool all first.uber.pool device).
-            let copy = any.1 in
-            let shows : Shows shape image copy.device copy.uber =
-            All-contains (λ (c : UberCopy). Shows shape image c.device c.uber) all copy shown.each (any.0, any.2, any.3) in
-            blank.none copy.uber (subst (λ d. Shows shape image d copy.uber) any.4.0 shows) any.4.1),
+            let ring_uber = any.1 in
+            let shows : Shows shape image ring_uber.device ring_uber.uber =
+            All-contains (λ (c : RingUber). Shows shape image c.device c.uber) all ring_uber shown.each (any.0, any.2, any.3) in
+            blank.none ring_uber.uber (subst (λ d. Shows shape image d ring_uber.uber) any.4.0 shows) any.4.1),
         (λ (new : IsNewDevice first.uber.reflow device).
             let is = blank.taken_if_new new.0 new.1 in marks.every device is.device_in works is),
       ))))
@@ -159,7 +160,7 @@ module _ (shape : Shape) (silent : ℕ) (image : Image) (all candidates : List U
     (λ has. let by = (each device).0 has in (
       by.0,
       by.1.0,
-      λ uber listed candidate level. by.1.1 (any_of (λ (copy : UberCopy). copy.device ≡ device) candidates (copy_on device uber)
+      λ uber listed candidate level. by.1.1 (any_of (λ (ring_uber : RingUber). ring_uber.device ≡ device) candidates (ring_uber_on device uber)
           (of_group device uber listed (in_use by.0 by.1.0) candidate level) refl),
     )),
     (λ at. (each device).1 (

@@ -1,4 +1,4 @@
--- How a copy is considered: what is said of the first one, and what alike uberblocks share.
+-- How an uberblock is considered: what is said of the first one, and what alike uberblocks share.
 use Rattle.std.proofs.Common.{◌≡◌, ◌≢◌, List, [], ◌∷◌, ◌++◌, Some, refl, sym, subst, ℕ}
 use Rattle.std.specs.Prelude.{slice_get}
 use Rattle.bank_trait.specs.Disk.{Image}
@@ -6,28 +6,28 @@ use Rattle.block_record.specs.declared.entry.IndexEntry.{IndexEntry}
 use Rattle.uberblock_ring.specs.Uberblock.{Uber}
 use Rattle.uberblock_ring.specs.Valid.{AreAlike}
 use Rattle.core_state.specs.Shown.{Shape, page_on}
-use Rattle.core_open.specs.declared.uber_copy.UberCopy.{UberCopy}
+use Rattle.core_open.specs.declared.ring_uber.RingUber.{RingUber}
 use Rattle.core_open.specs.Candidates.{HasIndex}
 
--- The first copy stays the first,
-pub first_kept : (P : UberCopy → Type 0) (copies : List UberCopy) (copy there : UberCopy)
-    → slice_get copies 0 ≡ Some there → ((first : UberCopy) → slice_get copies 0 ≡ Some first → P first)
-    → (first : UberCopy) → slice_get (copies ++ copy ∷ []) 0 ≡ Some first
+-- The first uberblock stays the first,
+pub first_kept : (P : RingUber → Type 0) (ubers : List RingUber) (ring_uber there : RingUber)
+    → slice_get ubers 0 ≡ Some there → ((first : RingUber) → slice_get ubers 0 ≡ Some first → P first)
+    → (first : RingUber) → slice_get (ubers ++ ring_uber ∷ []) 0 ≡ Some first
     → P first
-first_kept P [] copy there some each first is = absurd (cc)
-first_kept P (one ∷ copies) copy there some each first is = each first is
+first_kept P [] ring_uber there some each first is = absurd (cc)
+first_kept P (one ∷ ubers) ring_uber there some each first is = each first is
 
 -- or there was none.
-pub first_more : {E : Type 0} (P : UberCopy → E → Type 0) (copies : List UberCopy) (copy : UberCopy)
+pub first_more : {E : Type 0} (P : RingUber → E → Type 0) (ubers : List RingUber) (ring_uber : RingUber)
     (before fresh after : E)
-    → ((first : UberCopy) → slice_get copies 0 ≡ Some first → P first before)
-    → (copies ≡ [] → after ≡ fresh) → (copies ≢ [] → after ≡ before) → P copy fresh
-    → (first : UberCopy) → slice_get (copies ++ copy ∷ []) 0 ≡ Some first
+    → ((first : RingUber) → slice_get ubers 0 ≡ Some first → P first before)
+    → (ubers ≡ [] → after ≡ fresh) → (ubers ≢ [] → after ≡ before) → P ring_uber fresh
+    → (first : RingUber) → slice_get (ubers ++ ring_uber ∷ []) 0 ≡ Some first
     → P first after
-first_more P [] copy before fresh after each new same has first is =
-    let here : copy ≡ first = cc in
-    subst (λ (c : UberCopy). P c after) here (subst (P copy) (sym (new refl)) has)
-first_more P (one ∷ copies) copy before fresh after each new same has first is =
+first_more P [] ring_uber before fresh after each new same has first is =
+    let here : ring_uber ≡ first = cc in
+    subst (λ (c : RingUber). P c after) here (subst (P ring_uber) (sym (new refl)) has)
+first_more P (one ∷ ubers) ring_uber before fresh after each new same has first is =
     subst (P first) (sym (same (λ none. absurd (cc)))) (each first is)
 
 -- The index of an uberblock does not hang on its out set.

@@ -1,5 +1,6 @@
 -- What an opening keeps, from the calls that it made.
-use Rattle.std.proofs.Common.{◌≡◌, ⊎_elim, ℕ, zero, suc, ◌+◌, ◌^◌, ◌<◌, ◌≤◌, List, [], ◌∷◌, ◌++◌, Bool, true, false, Some, Result, Ok, refl, sym, ◌∙◌, ap, subst, arith, append_assoc}
+use Rattle.std.proofs.Common.{◌≡◌, ⊎_elim, ℕ, zero, suc, ◌+◌, ◌^◌, ◌<◌, ◌≤◌, List, [], ◌∷◌, ◌++◌, Bool, true, false}
+use Rattle.std.proofs.Common.{Some, Result, Ok, refl, sym, ◌∙◌, ap, subst, arith, append_assoc}
 use Rattle.std.specs.Prelude.{◌&&◌, unwrap_or}
 use Rattle.std.proofs.lemmas.Bool.{cases_lt}
 use Rattle.bank_trait.specs.Disk.{Image, Disk, Lawful, Unchanged}
@@ -21,14 +22,16 @@ use Rattle.core_state.proofs.Knowing.{present}
 use Rattle.core_state.proofs.Listed.{contains_cases, contains_none}
 use Rattle.core_state.proofs.Chosen.{chosen_held, chosen_group, chosen_same, chosen_sound, chosen_next}
 use Rattle.core_commit.specs.declared.committing.TooManyOut.{TooManyOut}
-use Rattle.core_commit.specs.Copies.{Copied, MayCopy}
+use Rattle.core_commit.specs.Spread.{Spread, MaySpread}
 use Rattle.core_open.specs.Causes.{IsChoiceWithout}
 use Rattle.core_open.specs.Holds.{HoldsImage, shape_of}
-use Rattle.core_open.specs.Opens.{IsSizedAsOne, MayOpen, IsWithinBelow, AddsOne, HasOpened, HasSpread, renewed_by, every_device}
-use Rattle.core_open.proofs.ChosenCopies.{AreRead, told_bytes, may_copy}
+use Rattle.core_open.specs.Opens.{IsSizedAsOne, MayOpen, IsWithinBelow, AddsOne, HasOpened, HasSpread, renewed_by}
+use Rattle.core_open.specs.Opens.{every_device}
+use Rattle.core_open.proofs.ChosenSpread.{AreRead, told_bytes, may_spread}
 use Rattle.core_open.proofs.Unchanged.{unchanged_keeps}
 use Rattle.core_open.proofs.Joining.{since_longer, certain_alone}
-use Rattle.core_open.proofs.Renewing.{IsCopied, Joins, find_number, joins_fresh, joins_listed, fresh, fresh_renews, may_renew, knows_next, next_same, next_listed, row_of_rest, parts}
+use Rattle.core_open.proofs.Renewing.{IsSpread, Joins, find_number, joins_fresh, joins_listed, fresh, fresh_renews}
+use Rattle.core_open.proofs.Renewing.{may_renew, knows_next, next_same, next_listed, row_of_rest, parts}
 
 -- A bank that tells what it holds holds what is read.
 pub present_held : (disk : Disk) → Tells disk → HoldsImage disk (present disk)
@@ -94,11 +97,11 @@ module _ (setting : Setting) (first : Kept) (later : List Kept) (old : Disk)
     parity_is = ap (λ (u : Uber). u.parity) held.0.alike;
   }
 
-  abbrev group_copied_first : Copied
-  group_copied_first = record { setting = setting; first = first; later = later; kept = kept; map = kept.map }
+  abbrev group_spread_first : Spread
+  group_spread_first = record { setting = setting; first = first; later = later; kept = kept; map = kept.map }
 
-  may_first : MayCopy group_copied_first uber entries lack_page lack_uber before
-  may_first = may_copy setting first later old knows lawful silent within no_other device uber entries chosen
+  may_first : MaySpread group_spread_first uber entries lack_page lack_uber before
+  may_first = may_spread setting first later old knows lawful silent within no_other device uber entries chosen
       may.tells before same lack_page lack_uber read
 
   row_first : (joined : List Kept) → IsRowOf ((first ∷ later) ++ joined) first later
@@ -113,28 +116,28 @@ module _ (setting : Setting) (first : Kept) (later : List Kept) (old : Disk)
   module _ (mid : Point) (result : Result (Unit {0}) TooManyOut)
       (spread : HasSpread uber entries lack_page lack_uber before mid result) where
     since_mid : (joined : List Kept) → KeepsSince setting ((first ∷ later) ++ joined) old.clock mid.disk
-    since_mid joined = spread.keeps.since group_copied_first ((first ∷ later) ++ joined) old.clock may_first
+    since_mid joined = spread.keeps.since group_spread_first ((first ∷ later) ++ joined) old.clock may_first
         (row_first joined) (begun joined)
 
-    -- An opening that stopped among its copies.
-    pub since_copied : (joined : List Kept) × AddsOne (first ∷ later) joined
+    -- An opening that stopped while it brought the chosen group to devices.
+    pub since_spread : (joined : List Kept) × AddsOne (first ∷ later) joined
         × KeepsSince setting ((first ∷ later) ++ joined) old.clock mid.disk
-    since_copied = ([], adds_none, since_mid [])
+    since_spread = ([], adds_none, since_mid [])
 
   module _ (mid : Point) (value : Unit {0}) (spread : HasSpread uber entries lack_page lack_uber before mid (Ok value))
       (all_within : IsWithin mid.out setting.failed) (lists : IsWithin uber.out before.out)
       (out : (mid.out < 2 ^ uber.reflow.to) × (count_below mid.out uber.reflow.to ≤ uber.parity))
       (limit : uber.group + 2 ≤ 2 ^ 62) where
-    is_copied : IsCopied setting first later kept uber entries mid
-    is_copied = record {
+    is_spread : IsSpread setting first later kept uber entries mid
+    is_spread = record {
       listed = held.0.listed;
       near = chosen_next setting first later old knows lawful silent within no_other device uber entries chosen;
       same = chosen_same setting first later old knows lawful silent within no_other device uber entries chosen;
       sound = chosen_sound setting first later old knows lawful silent within no_other device uber entries chosen;
       right = right;
       parity_is = may.parity kept held.0.listed;
-      stays = spread.keeps.stays group_copied_first may_first;
-      copies = λ on in_use. spread.keeps.done group_copied_first may_first on in_use;
+      stays = spread.keeps.stays group_spread_first may_first;
+      brought = λ on in_use. spread.keeps.done group_spread_first may_first on in_use;
       within = all_within;
       lists = λ on is. spread.gone.stay on (lists on is);
       out = out;
@@ -146,14 +149,14 @@ module _ (setting : Setting) (first : Kept) (later : List Kept) (old : Disk)
       pub next : Kept
       pub joined : List Kept
       pub front : List Kept
-      pub joins : Joins setting first later kept uber entries mid is_copied next joined front
+      pub joins : Joins setting first later kept uber entries mid is_spread next joined front
       pub adds : AddsOne (first ∷ later) joined
       pub more : List Kept
       pub at_most : joined ++ more ≡ next ∷ []
 
     next_is : NextIs
     next_is = ⊎_elim
-        (λ there. let joins = joins_listed setting first later kept uber entries mid is_copied there.0 there.1 there.2 in
+        (λ there. let joins = joins_listed setting first later kept uber entries mid is_spread there.0 there.1 there.2 in
         record {
           next = there.0;
           joined = [];
@@ -164,44 +167,44 @@ module _ (setting : Setting) (first : Kept) (later : List Kept) (old : Disk)
           at_most = refl;
         })
         (λ none. record {
-          next = fresh setting first later kept uber entries mid is_copied;
-          joined = fresh setting first later kept uber entries mid is_copied ∷ [];
+          next = fresh setting first later kept uber entries mid is_spread;
+          joined = fresh setting first later kept uber entries mid is_spread ∷ [];
           front = _;
-          joins = joins_fresh setting first later kept uber entries mid is_copied none;
+          joins = joins_fresh setting first later kept uber entries mid is_spread none;
           adds = record {
             one = omega arith;
             renews = λ next has. (
               kept,
               held.0.listed,
               ⊎_elim (λ same. subst (λ (k : Kept). Renews kept k) (sym same)
-                  (fresh_renews setting first later kept uber entries mid is_copied))
+                  (fresh_renews setting first later kept uber entries mid is_spread))
                   (λ nothing. absurd (contains_none next nothing))
-                  (contains_cases (fresh setting first later kept uber entries mid is_copied) [] next has),
+                  (contains_cases (fresh setting first later kept uber entries mid is_spread) [] next has),
             );
           };
           more = [];
           at_most = refl;
         })
-        (find_number (parts setting first later kept uber entries mid is_copied).1 (uber.group + 2))
+        (find_number (parts setting first later kept uber entries mid is_spread).1 (uber.group + 2))
 
-    abbrev group_renewed : Copied
+    abbrev group_renewed : Spread
     group_renewed = record {
       setting = setting;
       first = kept;
-      later = (parts setting first later kept uber entries mid is_copied).1 ++ next_is.joined;
+      later = (parts setting first later kept uber entries mid is_spread).1 ++ next_is.joined;
       kept = next_is.next;
       map = kept.map;
     }
 
-    may_next : MayCopy group_renewed (renewed_by uber mid.out) entries 0 every_device mid
-    may_next = may_renew setting first later kept uber entries mid is_copied next_is.next next_is.joined next_is.front
+    may_next : MaySpread group_renewed (renewed_by uber mid.out) entries 0 every_device mid
+    may_next = may_renew setting first later kept uber entries mid is_spread next_is.next next_is.joined next_is.front
         next_is.joins every_device all_set
 
     module _ (after : Point) (result : Result (Unit {0}) TooManyOut)
         (renews : HasSpread (renewed_by uber mid.out) entries 0 every_device mid after result) where
       since_next : KeepsSince setting ((first ∷ later) ++ next_is.joined) old.clock after.disk
       since_next = renews.keeps.since group_renewed ((first ∷ later) ++ next_is.joined) old.clock may_next
-          (row_of_rest setting first later kept uber entries mid is_copied next_is.next next_is.joined next_is.front
+          (row_of_rest setting first later kept uber entries mid is_spread next_is.next next_is.joined next_is.front
           next_is.joins)
           (since_mid mid (Ok value) spread next_is.joined)
 
@@ -218,7 +221,7 @@ module _ (setting : Setting) (first : Kept) (later : List Kept) (old : Disk)
         → (shown : IsChoiceWithout (shape_of old) silent image) × (shown.uber.group ≡ uber.group))
         → HasOpened setting first later (renewed_by uber mid.out) entries silent old after.disk
     opened_next after value_after renews within_after shown =
-        let same_next = next_same setting first later kept uber entries mid is_copied next_is.next next_is.joined
+        let same_next = next_same setting first later kept uber entries mid is_spread next_is.next next_is.joined
         next_is.front next_is.joins in
         let stays = renews.keeps.stays group_renewed may_next in
         record {
@@ -228,12 +231,12 @@ module _ (setting : Setting) (first : Kept) (later : List Kept) (old : Disk)
           renews = next_is.joins.renews;
           alike = sym same_next.alike;
           entries_are = sym same_next.entries;
-          knows = knows_next setting first later kept uber entries mid is_copied next_is.next next_is.joined
+          knows = knows_next setting first later kept uber entries mid is_spread next_is.next next_is.joined
               next_is.front next_is.joins after within_after stays.knows
               (λ on in_use. renews.keeps.done group_renewed may_next on in_use);
           known = certain_alone setting after.disk (kept ∷ group_renewed.later) (renewed_by uber mid.out) next_is.next
               next_is.joins.row.ascending
-              (next_listed setting first later kept uber entries mid is_copied next_is.next next_is.joined next_is.front
+              (next_listed setting first later kept uber entries mid is_spread next_is.next next_is.joined next_is.front
               next_is.joins) (sym same_next.alike) stays.known;
           since = subst (λ (g : List Kept). KeepsSince setting g old.clock after.disk)
               (append_assoc (first ∷ later) next_is.joined next_is.more

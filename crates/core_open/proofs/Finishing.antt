@@ -1,5 +1,6 @@
 -- What an opening promises, from what was found and what was done with it.
-use Rattle.std.proofs.Common.{◌≡◌, ◌⊎◌, inl, inr, ⊎_elim, ℕ, ◌+◌, ◌^◌, ◌<◌, ◌≤◌, List, Bool, true, false, Result, Ok, Err, refl, sym, ◌∙◌, ap, subst, arith}
+use Rattle.std.proofs.Common.{◌≡◌, ◌⊎◌, inl, inr, ⊎_elim, ℕ, ◌+◌, ◌^◌, ◌<◌, ◌≤◌, List, Bool, true, false, Result, Ok}
+use Rattle.std.proofs.Common.{Err, refl, sym, ◌∙◌, ap, subst, arith}
 use Rattle.std.specs.Prelude.{IfOk, IfErr}
 use Rattle.std.proofs.lemmas.Bool.{cases_lt}
 use Rattle.bank_trait.specs.Disk.{Image, Disk, Lawful, Later, Unchanged}
@@ -22,14 +23,17 @@ use Rattle.core_open.specs.Causes.{AreTooMany, AreOutOf, IsOpenCause}
 use Rattle.core_open.specs.Failing.{HaveFailed}
 use Rattle.core_open.specs.Finding.{IsFoundIn, FitsOpening}
 use Rattle.core_open.specs.Holds.{HoldsImage, shape_of}
-use Rattle.core_open.specs.Opens.{OpeningKeeps, IsWithinBelow, LeavesBank, LeavesOthers, HasBank, IsOpenedWith, RenewsChoice, WritesInOrder, StopsCopying, StopsRenewing, renewed_by}
+use Rattle.core_open.specs.Opens.{OpeningKeeps, IsWithinBelow, LeavesBank, LeavesOthers, HasBank, IsOpenedWith}
+use Rattle.core_open.specs.Opens.{RenewsChoice, WritesInOrder, StopsSpreading, StopsRenewing, renewed_by}
 use Rattle.core_open.specs.Regions.{IsOnBelow}
 use Rattle.core_open.specs.OpensFound.{WritesFound, OpensFound}
 use Rattle.core_open.proofs.Renewal.{right_with}
 use Rattle.core_open.proofs.Unchanged.{unchanged_none, unchanged_then}
 use Rattle.core_open.proofs.Others.{found_touches}
 use Rattle.core_open.proofs.InOrder.{renewed_in_order}
-use Rattle.core_open.proofs.Written.{silent_now, choice, shown_by, limit_caused, many_caused, went_spread, went_renewed, out_caused, many_gone, missed, keeps_renewed, kept_renewed, cut_copied, cut_renewed}
+use Rattle.core_open.proofs.Written.{silent_now, choice, shown_by, limit_caused, many_caused, went_spread, went_renewed}
+use Rattle.core_open.proofs.Written.{out_caused, many_gone, missed, keeps_renewed, kept_renewed, cut_spread}
+use Rattle.core_open.proofs.Written.{cut_renewed}
 
 within_trans : (one two three : ℕ) → IsWithin one two → IsWithin two three → IsWithin one three
 within_trans one two three first next device has = next device (first device has)
@@ -111,7 +115,7 @@ module _ (found : Found) (old mid new : Disk) (lawful : Lawful old) (same_found 
   opened_is opened index (entries_is, silent_is, writes) =
       let ran = writes.ends.1 in
       let later = later_trans writes.same.goes_on.later
-      (later_trans ran.copied.spares.later ran.spread.spares.later) in
+      (later_trans ran.brought.spares.later ran.spread.spares.later) in
       let kept = kept_renewed found old mid new lawful same_found found_in right silent_failed fits later opened.out
       (Ok opened.uber) writes opened.uber writes.ends.0 ran in
       let keeps = keeps_renewed found old mid new lawful same_found found_in right silent_failed fits later opened.out
@@ -131,7 +135,7 @@ module _ (found : Found) (old mid new : Disk) (lawful : Lawful old) (same_found 
         below = subst (λ (n : ℕ). opened.out < 2 ^ n) (sym wide) writes.below;
         bank = bank_renewed opened.uber opened.out ran.mid.out ran.renewed_is
             (within_trans found.out writes.asked_out opened.out writes.stay
-            (within_trans writes.asked_out ran.mid.out opened.out ran.copied.gone.stay ran.spread.gone.stay)) later;
+            (within_trans writes.asked_out ran.mid.out opened.out ran.brought.gone.stay ran.spread.gone.stay)) later;
         group = (let number : opened.uber.group ≡ found.uber.group + 2 = ap (λ (u : Uber). u.group) ran.renewed_is in
             let least = right.group.0 in omega (arith, number, least));
         silent = subst (λ (n : ℕ). HaveFailed old new n) (sym silent_is)
@@ -149,7 +153,7 @@ module _ (found : Found) (old mid new : Disk) (lawful : Lawful old) (same_found 
         });
         missed = λ device below gone. subst (λ (n : ℕ). has_device n device ≡ true) (sym out_is)
             (missed found old mid new lawful same_found found_in right silent_failed fits later opened.out
-            (Ok opened.uber) writes ran.mid.out ran.copied.gone.stay device (omega (arith, below, wide))
+            (Ok opened.uber) writes ran.mid.out ran.brought.gone.stay device (omega (arith, below, wide))
             (subst (λ (n : ℕ). has_device n device ≡ true) silent_is gone));
         renews = λ image holds. subst (λ (n : ℕ). RenewsChoice (shape_of old) n image opened.uber opened.entries.items)
             (sym silent_is)
@@ -167,7 +171,7 @@ module _ (found : Found) (old mid new : Disk) (lawful : Lawful old) (same_found 
           later = later_trans same_found.goes_on.later later;
           reads = λ device x used region.
               ran.spread.spares.reads device x used region
-              ∙ ran.copied.spares.reads device x
+              ∙ ran.brought.spares.reads device x
               (in_use_before ran.mid (point_of opened.out new) device ran.spread.gone.stay used) region
               ∙ writes.same.reads device x ∙ same_found.reads device x;
         };
@@ -189,24 +193,24 @@ module _ (found : Found) (old mid new : Disk) (lawful : Lawful old) (same_found 
       → IsRefused old new (reason.TooManyFailed out)
   refused_writes out writes = by writes.ends.2
     where
-      by : StopsCopying found.uber found.entries.items writes.lack_page found.lacks_uber
+      by : StopsSpreading found.uber found.entries.items writes.lack_page found.lacks_uber
           (point_of writes.asked_out writes.asked) (point_of out new)
           ⊎ StopsRenewing found.uber found.entries.items writes.lack_page found.lacks_uber
           (point_of writes.asked_out writes.asked) (point_of out new)
           → IsRefused old new (reason.TooManyFailed out)
       by (inl stops) =
-          let later = later_trans writes.same.goes_on.later stops.copied.spares.later in
+          let later = later_trans writes.same.goes_on.later stops.brought.spares.later in
           let went = went_spread found old mid new lawful same_found found_in right silent_failed fits later out
-          (Err (reason.TooManyFailed out)) writes (point_of out new) (Err stops.why) stops.copied in
+          (Err (reason.TooManyFailed out)) writes (point_of out new) (Err stops.why) stops.brought in
           record {
             cause = inr (many_gone found old mid new lawful same_found found_in right silent_failed fits later out
                 (Err (reason.TooManyFailed out)) writes went writes.ends.1);
             untouched = ⊎_elim
                 (λ many. inl (unchanged_then same_found (unchanged_then writes.same
                 (nothing_called (point_of writes.asked_out writes.asked) (point_of out new)
-                (stops.copied.stops.none many)))))
-                (λ few. inr (cut_copied found old mid new lawful same_found found_in right silent_failed fits later out
-                (Err (reason.TooManyFailed out)) writes (Err stops.why) stops.copied))
+                (stops.brought.stops.none many)))))
+                (λ few. inr (cut_spread found old mid new lawful same_found found_in right silent_failed fits later out
+                (Err (reason.TooManyFailed out)) writes (Err stops.why) stops.brought))
                 (cases_lt found.uber.parity (count_of writes.asked_out));
             others = inr (λ image holds. (
               shown_by found old mid new lawful same_found found_in right silent_failed fits later image holds,
@@ -215,7 +219,7 @@ module _ (found : Found) (old mid new : Disk) (lawful : Lawful old) (same_found 
           }
       by (inr stops) =
           let later = later_trans writes.same.goes_on.later
-          (later_trans stops.ran.copied.spares.later stops.ran.spread.spares.later) in
+          (later_trans stops.ran.brought.spares.later stops.ran.spread.spares.later) in
           let went = went_renewed found old mid new lawful same_found found_in right silent_failed fits later out
           (Err (reason.TooManyFailed out)) writes stops.renewed (point_of out new) (Err stops.why) stops.ran in
           record {

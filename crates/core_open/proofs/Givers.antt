@@ -8,7 +8,7 @@ use Rattle.uberblock_ring.specs.Devices.{has_device}
 use Rattle.uberblock_ring.specs.Uberblock.{Uber}
 use Rattle.core_state.specs.Index.{IsFitting}
 use Rattle.core_state.specs.Shown.{Shape, Gives}
-use Rattle.core_open.specs.declared.uber_copy.UberCopy.{UberCopy}
+use Rattle.core_open.specs.declared.ring_uber.RingUber.{RingUber}
 use Rattle.core_open.specs.Candidates.{FirstIsGiven}
 use Rattle.core_open.specs.Lacking.{GivesOrLacks, IsFirstGiver}
 use Rattle.core_open.specs.Pages.{IsGivenPage}
@@ -81,15 +81,15 @@ asked_first disk out uber entries giver device first below used low = ⊎_elim
     (first.before device (omega (arith, low, apart)) below used))
     (cases_eq device giver)
 
--- The same of the first copy.
-pub first_given_before : (old mid : Disk) (silent : ℕ) (copies : List UberCopy) (entries : List IndexEntry)
-    (giver : ℕ) → Unchanged old mid → FirstIsGiven mid silent copies entries giver
-    → FirstIsGiven old silent copies entries giver
-first_given_before old mid silent copies entries giver same given =
+-- The same of the first uberblock.
+pub first_given_before : (old mid : Disk) (silent : ℕ) (ubers : List RingUber) (entries : List IndexEntry)
+    (giver : ℕ) → Unchanged old mid → FirstIsGiven mid silent ubers entries giver
+    → FirstIsGiven old silent ubers entries giver
+first_given_before old mid silent ubers entries giver same given =
     λ first is. giver_before old mid silent first.uber entries giver same (given first is)
 
-pub first_given_after : (old mid : Disk) (silent : ℕ) (copies : List UberCopy) (entries : List IndexEntry)
-    (giver : ℕ) → Unchanged old mid → FirstIsGiven old silent copies entries giver
-    → FirstIsGiven mid silent copies entries giver
-first_given_after old mid silent copies entries giver same given =
+pub first_given_after : (old mid : Disk) (silent : ℕ) (ubers : List RingUber) (entries : List IndexEntry)
+    (giver : ℕ) → Unchanged old mid → FirstIsGiven old silent ubers entries giver
+    → FirstIsGiven mid silent ubers entries giver
+first_given_after old mid silent ubers entries giver same given =
     λ first is. giver_after old mid silent first.uber entries giver same (given first is)

@@ -1,4 +1,4 @@
--- An opening writes copies of the chosen group, and then the uberblock that renews it.
+-- An opening brings the chosen group to devices, and then writes the uberblock that renews it.
 use Rattle.std.proofs.Common.{◌≡◌, inr, ⊎_elim, ℕ, List, Result, sym, ◌∙◌, ap, subst}
 use Rattle.std.specs.Prelude.{Contains}
 use Rattle.bank_trait.specs.Disk.{Image, Disk, Unchanged}
@@ -11,8 +11,8 @@ use Rattle.core_state.proofs.Calls.{true_false}
 use Rattle.core_state.proofs.Frames.{Nowhere}
 use Rattle.core_state.proofs.Fresh.{none_in}
 use Rattle.core_commit.specs.declared.committing.TooManyOut.{TooManyOut}
-use Rattle.core_commit.specs.Writing.{IsCopyOf, WritesOnly}
-use Rattle.core_commit.proofs.Writing.{writes_then, writes_more, was_uber, was_copy}
+use Rattle.core_commit.specs.Writing.{IsSpreadOf, WritesOnly}
+use Rattle.core_commit.proofs.Writing.{writes_then, writes_more, was_uber, was_spread}
 use Rattle.core_open.specs.declared.finding.Found.{Found}
 use Rattle.core_open.specs.declared.why.OpenWhy.{OpenWhy}
 use Rattle.core_open.specs.Finding.{IsFoundIn}
@@ -41,14 +41,14 @@ module _ (found : Found) (old mid new : Disk) (same_found : Unchanged old mid)
   abbrev before : Point
   before = point_of writes.asked_out writes.asked
 
-  abbrev IsFoundCopy : ℕ → ℕ → ℕ → List ℕ → Type 0
-  IsFoundCopy = IsCopyOf found.uber found.entries.items writes.lack_page found.lacks_uber
+  abbrev IsFoundUber : ℕ → ℕ → ℕ → List ℕ → Type 0
+  IsFoundUber = IsSpreadOf found.uber found.entries.items writes.lack_page found.lacks_uber
 
   -- What was written up to a moment, and from there on.
-  pub in_order : (renewed : Uber) (at : Disk) → WritesOnly (IsFoundCopy writes.asked_out) writes.asked at
+  pub in_order : (renewed : Uber) (at : Disk) → WritesOnly (IsFoundUber writes.asked_out) writes.asked at
       → renewed ≡ renewed_by found.uber renewed.out → WritesOnly (IsRenewal renewed found.out) at new
       → WritesInOrder old new found.silent renewed
-  in_order renewed at copies renewed_is own = record {
+  in_order renewed at brought renewed_is own = record {
     device = found.device;
     chosen = found.uber;
     entries = found.entries.items;
@@ -65,12 +65,12 @@ module _ (found : Found) (old mid new : Disk) (same_found : Unchanged old mid)
     lacks_uber = λ image holds other lacks twin.
         (((found_in image holds).lacks_uber no_blocks other).0 lacks).2 twin.0 twin.1 twin.2 twin.3;
     mid = at;
-    copies = writes_then (IsFoundCopy found.out) (IsFoundCopy found.out) (IsFoundCopy found.out)
-        (λ d x bytes copy. copy) (λ d x bytes copy. copy)
-        (read_writes (IsFoundCopy found.out) (unchanged_then same_found writes.same))
-        (writes_more (IsFoundCopy writes.asked_out) (IsFoundCopy found.out)
-        (was_copy found.uber found.entries.items writes.lack_page found.lacks_uber (point_of found.out writes.asked)
-        before writes.stay) copies);
+    brought = writes_then (IsFoundUber found.out) (IsFoundUber found.out) (IsFoundUber found.out)
+        (λ d x bytes wrote. wrote) (λ d x bytes wrote. wrote)
+        (read_writes (IsFoundUber found.out) (unchanged_then same_found writes.same))
+        (writes_more (IsFoundUber writes.asked_out) (IsFoundUber found.out)
+        (was_spread found.uber found.entries.items writes.lack_page found.lacks_uber (point_of found.out writes.asked)
+        before writes.stay) brought);
     renewed_is = renewed_is;
     renewal = own;
   }
@@ -81,10 +81,10 @@ module _ (found : Found) (old mid new : Disk) (same_found : Unchanged old mid)
       → HasSpread renewed found.entries.items 0 every_device from to ended
       → WritesOnly (IsRenewal renewed found.out) from.disk to.disk
   renewal_writes renewed from to ended stay spread =
-      writes_more (IsCopyOf renewed found.entries.items 0 every_device from.out) (IsRenewal renewed found.out)
-      (λ d x bytes copy. ⊎_elim
+      writes_more (IsSpreadOf renewed found.entries.items 0 every_device from.out) (IsRenewal renewed found.out)
+      (λ d x bytes wrote. ⊎_elim
       (λ own. was_uber renewed found.entries.items 0 every_device (point_of found.out from.disk) from stay d x bytes own)
-      (λ page. absurd (true_false (sym page.lacks ∙ none_in d))) copy) spread.writes
+      (λ page. absurd (true_false (sym page.lacks ∙ none_in d))) wrote) spread.writes
 
   -- An opening that came to its own group.
   pub renewed_in_order : (renewed : Uber) (ended : Result (Unit {0}) TooManyOut)
@@ -93,7 +93,7 @@ module _ (found : Found) (old mid new : Disk) (same_found : Unchanged old mid)
       → WritesInOrder old new found.silent renewed
   renewed_in_order renewed ended ran =
       let out_is : renewed.out ≡ ran.mid.out = ap (λ (u : Uber). u.out) ran.renewed_is in
-      in_order renewed ran.mid.disk ran.copied.writes
+      in_order renewed ran.mid.disk ran.brought.writes
       (ran.renewed_is ∙ ap (λ (n : ℕ). renewed_by found.uber n) (sym out_is))
       (renewal_writes renewed ran.mid (point_of out new) ended
-      (λ device was. ran.copied.gone.stay device (writes.stay device was)) ran.spread)
+      (λ device was. ran.brought.gone.stay device (writes.stay device was)) ran.spread)

@@ -1,5 +1,6 @@
 -- How the leading pool is found, vote by vote.
-use Rattle.std.proofs.Common.{◌≡◌, ℕ, ◌+◌, ◌<◌, ◌≤◌, List, length, Option, None, Some, refl, sym, subst, arith, get_or, below_more}
+use Rattle.std.proofs.Common.{◌≡◌, ℕ, ◌+◌, ◌<◌, ◌≤◌, List, length, Option, None, Some, refl, sym, subst, arith, get_or}
+use Rattle.std.proofs.Common.{below_more}
 use Rattle.core_open.specs.declared.votes.Vote.{Vote}
 use Rattle.core_open.specs.Votes.{IsWinner, votes_for}
 use Rattle.core_open.proofs.Voters.{some_votes}

@@ -13,7 +13,7 @@ pub mod Concluded
 pub mod PageReading
 pub mod ReadTo
 pub mod Rings
-pub mod ChosenCopies
+pub mod ChosenSpread
 pub mod Renewing
 pub mod Settled
 pub mod Sorting
@@ -31,3 +31,15 @@ pub mod Written
 pub mod Unhindered
 pub mod Finishing
 pub mod Seen
+pub mod Layouts
+pub mod Holding
+pub mod Banks
+pub mod PutRanges
+pub mod NextGroup
+pub mod Committing
+pub mod Frees
+pub mod Begins
+pub mod Framing
+pub mod Reopened
+pub mod Growing
+pub mod Answered

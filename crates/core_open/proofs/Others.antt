@@ -58,7 +58,7 @@ both_touch : (uber : Uber) (entries : List IndexEntry) (lack_page lack_uber : �
 both_touch uber entries lack_page lack_uber before renewed after result ran =
     touches_then (IsOnBelow uber.reflow.to) (IsOnBelow uber.reflow.to) (IsOnBelow uber.reflow.to)
     (λ d x here. here) (λ d x here. here)
-    (one_touches uber entries lack_page lack_uber before ran.mid (Ok ran.value) ran.copied)
+    (one_touches uber entries lack_page lack_uber before ran.mid (Ok ran.value) ran.brought)
     (subst (λ (n : ℕ). TouchesOnly (IsOnBelow n) ran.mid.disk after.disk)
     (ap (λ (u : Uber). u.reflow.to) ran.renewed_is)
     (one_touches renewed entries _ _ ran.mid after result ran.spread))
@@ -69,7 +69,7 @@ ends_touch : (uber : Uber) (entries : List IndexEntry) (lack_page lack_uber : �
 ends_touch uber entries lack_page lack_uber before after (Ok renewed) ends =
     both_touch uber entries lack_page lack_uber before renewed after (Ok ends.0) ends.1
 ends_touch uber entries lack_page lack_uber before after (Err why) ends = ⊎_elim
-    (λ stops. one_touches uber entries lack_page lack_uber before after (Err stops.why) stops.copied)
+    (λ stops. one_touches uber entries lack_page lack_uber before after (Err stops.why) stops.brought)
     (λ stops. both_touch uber entries lack_page lack_uber before stops.renewed after (Err stops.why) stops.ran)
     ends.2
 

@@ -1,5 +1,7 @@
 -- How an index page is read, sector by sector, and what it shows then.
-use Rattle.std.proofs.Common.{◌≡◌, ℕ, zero, suc, ◌+◌, ◌<◌, List, [], ◌++◌, length, Option, None, Some, true, refl, sym, ◌∙◌, ap, subst, arith, append_assoc, length-append, length-drop, add-one, ⊎_elim, ◌*◌, ◌≤◌, take, drop}
+use Rattle.std.proofs.Common.{◌≡◌, ℕ, zero, suc, ◌+◌, ◌<◌, List, [], ◌++◌, length, Option, None, Some, true, refl, sym}
+use Rattle.std.proofs.Common.{◌∙◌, ap, subst, arith, append_assoc, length-append, length-drop, add-one, ⊎_elim, ◌*◌}
+use Rattle.std.proofs.Common.{◌≤◌, take, drop}
 use Rattle.std.specs.Prelude.{Bool, IsTrue, ◌↔◌, min, IfNone}
 use Rattle.std.proofs.lemmas.Bool.{cases_lt}
 use Rattle.std.proofs.lemmas.List.{append-nil, drop-append-le, drop_at, length-take-le, take-append-le, take_all}

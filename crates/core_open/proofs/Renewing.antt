@@ -1,12 +1,12 @@
 -- The group that an opening writes: two more than the chosen one, with its index page.
-use Rattle.std.proofs.Common.{◌≡◌, ◌≢◌, ◌⊎◌, inl, inr, ⊎_elim, ℕ, zero, suc, ◌+◌, ◌^◌, ◌<◌, ◌≤◌, List, [], ◌∷◌, ◌++◌, length, Bool, true, false, refl, sym, ◌∙◌, ap, subst, arith, append_assoc}
+use Rattle.std.proofs.Common.{◌≡◌, ◌≢◌, ◌⊎◌, inl, inr, ⊎_elim, ℕ, zero, suc, ◌+◌, ◌^◌, ◌<◌, ◌≤◌, List, [], ◌∷◌, ◌++◌}
+use Rattle.std.proofs.Common.{length, Bool, true, false, refl, sym, ◌∙◌, ap, subst, arith, append_assoc}
 use Rattle.std.specs.Prelude.{Contains, AllPairs, slice_index_or, All}
 use Rattle.std.proofs.lemmas.Bool.{cases_eq}
 use Rattle.std.proofs.lemmas.List.{append-nil, get_or_default}
 use Rattle.std.proofs.lemmas.List.Elements.{All-append}
 use Rattle.sha2.specs.Sha256.{sha256}
-use Rattle.width_map.specs.declared.birth.Birth.{Birth}
-use Rattle.width_map.specs.Births.{NoneAbove}
+use Rattle.width_map.proofs.Growing.{none_above_more}
 use Rattle.block_record.specs.declared.entry.IndexEntry.{IndexEntry}
 use Rattle.block_record.specs.Page.{index_page, IsIndex}
 use Rattle.uberblock_ring.specs.Devices.{has_device, count_below, IsWithin}
@@ -24,7 +24,7 @@ use Rattle.core_state.proofs.Listed.{contains_head, contains_tail, contains_case
 use Rattle.core_state.proofs.Moving.{asks_same, knows_move, knows_widen}
 use Rattle.core_state.proofs.Reader.{same_group}
 use Rattle.core_state.proofs.Widths.{listed_width, only_width, width_like, widths_behind}
-use Rattle.core_commit.specs.Copies.{IsInUse, HasCopy, StaysKnown, MayCopy}
+use Rattle.core_commit.specs.Spread.{IsInUse, IsSpreadTo, StaysKnown, MaySpread}
 use Rattle.core_commit.proofs.Rows.{IsBefore, last_alone, contains_front, contains_back}
 
 -- A list in two parts about one of its own.
@@ -127,8 +127,8 @@ asks_renewed kept next device device_sector bytes renews asks =
     device device_sector bytes (record { entries = renews.entries; map = renews.map; alike = renews.alike }) asks in
     record { cell = moved.cell; cell_is = moved.cell_is; place = moved.place; bytes_are = moved.bytes_are }
 
--- What an opening knows once the chosen group is copied to each device in use.
-pub record IsCopied (setting : Setting) (first : Kept) (later : List Kept) (kept : Kept) (uber : Uber)
+-- What an opening knows once the chosen group is brought to each device in use.
+pub record IsSpread (setting : Setting) (first : Kept) (later : List Kept) (kept : Kept) (uber : Uber)
     (entries : List IndexEntry) (point : Point) : Type 0 where
   pub listed : Contains (first ∷ later) kept
   pub near : (kept ≡ first) ⊎ IsNextOf first kept
@@ -138,23 +138,17 @@ pub record IsCopied (setting : Setting) (first : Kept) (later : List Kept) (kept
   pub parity_is : kept.uber.parity ≡ first.uber.parity
   pub stays : StaysKnown (record { setting = setting; first = first; later = later; kept = kept; map = kept.map })
       uber entries point
-  pub copies : (device : ℕ) → IsInUse uber point device
-      → HasCopy (record { setting = setting; first = first; later = later; kept = kept; map = kept.map })
+  pub brought : (device : ℕ) → IsInUse uber point device
+      → IsSpreadTo (record { setting = setting; first = first; later = later; kept = kept; map = kept.map })
       uber entries point device
   pub within : IsWithin point.out setting.failed
   pub lists : IsWithin uber.out point.out
   pub out : (point.out < 2 ^ uber.reflow.to) × (count_below point.out uber.reflow.to ≤ uber.parity)
   pub limit : uber.group + 2 ≤ 2 ^ 62
 
-pub none_above_more : (group more : ℕ) (births : List Birth) → group ≤ more → NoneAbove group births
-    → NoneAbove more births
-none_above_more group more [] low none = none
-none_above_more group more (entry ∷ births) low none =
-    ((let one = none.0 in omega (arith, one, low)), none_above_more group more births low none.1)
-
 module _ (setting : Setting) (first : Kept) (later : List Kept) (kept : Kept) (uber : Uber)
     (entries : List IndexEntry) (point : Point)
-    (is : IsCopied setting first later kept uber entries point) where
+    (is : IsSpread setting first later kept uber entries point) where
   abbrev pub renewed : Uber
   renewed = record uber { group = uber.group + 2; out = point.out }
 
@@ -313,7 +307,7 @@ module _ (setting : Setting) (first : Kept) (later : List Kept) (kept : Kept) (u
   pub knows_kept : Knows setting kept back point.disk
   knows_kept = knows_move setting first later kept back point.disk (row_from back from_kept back_widths next_of) is.sound
       (lowest is.near)
-      (λ device below works. (is.copies device (in_use_left device below works)).sealed)
+      (λ device below works. (is.brought device (in_use_left device below works)).sealed)
       (λ other has high. behind_kept parts.0 kept back other ordered
       (subst (λ (g : List Kept). Contains g other) parts.2 has) high)
       knows
@@ -458,7 +452,7 @@ module _ (setting : Setting) (first : Kept) (later : List Kept) (kept : Kept) (u
 
     -- Its uberblock may be written to each device.
     pub may_renew : (all : ℕ) → ((device : ℕ) → device < 16 → has_device all device ≡ true)
-        → MayCopy (record { setting = setting; first = kept; later = rest; kept = next; map = kept.map })
+        → MaySpread (record { setting = setting; first = kept; later = rest; kept = next; map = kept.map })
         renewed entries 0 all point
     may_renew all each = record {
       knows = knows_rest;
@@ -467,7 +461,7 @@ module _ (setting : Setting) (first : Kept) (later : List Kept) (kept : Kept) (u
       pool_is = sym (ap (λ (u : Uber). u.pool) is.same.alike) ∙ is.sound.pool_is;
       known = next_certain;
       told = is.stays.told;
-      pages = λ device part in_use has low. (is.copies device in_use).page part low;
+      pages = λ device part in_use has low. (is.brought device in_use).page part low;
       slots = λ device in_use has. absurd (true_false
           (sym (each device (let wide = is.right.widths.1 in let below = in_use.0 in omega (arith, wide, below))) ∙ has));
       page_spared = λ device in_use lacks. absurd (true_false (sym lacks ∙ none_in device));
@@ -506,10 +500,10 @@ module _ (setting : Setting) (first : Kept) (later : List Kept) (kept : Kept) (u
     -- Once each device in use has it for certain, it is the group that is kept.
     pub knows_next : (after : Point) → IsWithin after.out setting.failed → Knows setting kept rest after.disk
         → ((device : ℕ) → IsInUse renewed after device
-        → HasCopy (record { setting = setting; first = kept; later = rest; kept = next; map = kept.map })
+        → IsSpreadTo (record { setting = setting; first = kept; later = rest; kept = next; map = kept.map })
         renewed entries after device)
         → Knows setting next [] after.disk
-    knows_next after within now copies = knows_move setting kept rest next [] after.disk
+    knows_next after within now brought = knows_move setting kept rest next [] after.disk
         (record {
           few = (let few = joins.row.few in
               let parity : next.uber.parity ≡ kept.uber.parity = ap (λ (u : Uber). u.parity) joins.renews.alike in
@@ -528,7 +522,7 @@ module _ (setting : Setting) (first : Kept) (later : List Kept) (kept : Kept) (u
         next_sound
         (let number : next.uber.group ≡ kept.uber.group + 2 = ap (λ (u : Uber). u.group) joins.renews.alike in
         omega (arith, number))
-        (λ device below works. (copies device (used device below works)).sealed)
+        (λ device below works. (brought device (used device below works)).sealed)
         (λ other has high. subst (λ (k : Kept). Contains (next ∷ []) k)
         (sym (last_alone front next other (subst (AllPairs IsBefore) joins.last joins.row.ascending)
         (subst (λ (g : List Kept). Contains g other) joins.last has) high))

@@ -6,21 +6,21 @@ use Rattle.block_record.specs.declared.entry.IndexEntry.{IndexEntry}
 use Rattle.uberblock_ring.specs.Devices.{has_device, IsWithin}
 use Rattle.core_state.specs.Shown.{Shape, read_devices}
 use Rattle.core_state.specs.Choosing.{IsNotPool}
-use Rattle.core_open.specs.declared.uber_copy.UberCopy.{UberCopy}
+use Rattle.core_open.specs.declared.ring_uber.RingUber.{RingUber}
 use Rattle.core_open.specs.declared.why.OpenWhy.{OpenWhy}
 use Rattle.core_open.specs.declared.why.OpenWhy.TheVariants.{NotPool, TooManyFailed, Limit, NoMemory}
 use Rattle.core_open.specs.Candidates.{AreChosen}
-use Rattle.core_open.specs.Copies.{AreShown}
+use Rattle.core_open.specs.RingUbers.{AreShown}
 use Rattle.core_open.specs.Failing.{HaveFailed}
 use Rattle.core_open.specs.Finding.{IsFindCause, IsNothingFound}
 use Rattle.core_open.specs.Holds.{HoldsImage, shape_of}
 use Rattle.core_open.proofs.Unchanged.{holds_then, shape_then}
 
 -- With more devices silent all is listed that the others show.
-pub shown_within : (shape : Shape) (before after : ℕ) (image : Image) (devices : ℕ) (copies : List UberCopy)
-    → IsWithin before after → AreShown shape before image devices copies
-    → AreShown shape after image devices copies
-shown_within shape before after image devices copies within shown = record {
+pub shown_within : (shape : Shape) (before after : ℕ) (image : Image) (devices : ℕ) (ubers : List RingUber)
+    → IsWithin before after → AreShown shape before image devices ubers
+    → AreShown shape after image devices ubers
+shown_within shape before after image devices ubers within shown = record {
   each = shown.each;
   every = λ device uber low works shows. shown.every device uber low (still device works) shows;
 }
@@ -32,26 +32,26 @@ shown_within shape before after image devices copies within shown = record {
         (cases_Bool (has_device before device))
 
 module _ (old mid : Disk) (same : Unchanged old mid) (before after : ℕ) (within : IsWithin before after)
-    (copies : List UberCopy)
+    (ubers : List RingUber)
     (shown : (image : Image) → HoldsImage old image
-    → AreShown (shape_of old) before image (read_devices (shape_of old)) copies) where
-  pub shown_after : (now : List UberCopy) → now ≡ copies → (image : Image) → HoldsImage old image
+    → AreShown (shape_of old) before image (read_devices (shape_of old)) ubers) where
+  pub shown_after : (now : List RingUber) → now ≡ ubers → (image : Image) → HoldsImage old image
       → AreShown (shape_of old) after image (read_devices (shape_of old)) now
   shown_after now is image holds = subst
-      (λ (list : List UberCopy). AreShown (shape_of old) after image (read_devices (shape_of old)) list) (sym is)
-      (shown_within (shape_of old) before after image (read_devices (shape_of old)) copies within (shown image holds))
+      (λ (list : List RingUber). AreShown (shape_of old) after image (read_devices (shape_of old)) list) (sym is)
+      (shown_within (shape_of old) before after image (read_devices (shape_of old)) ubers within (shown image holds))
 
-  pub chosen_after : (candidates : List UberCopy) (entries : List IndexEntry)
+  pub chosen_after : (candidates : List RingUber) (entries : List IndexEntry)
       → ((image : Image) → HoldsImage mid image
-      → AreShown (shape_of mid) after image (read_devices (shape_of mid)) copies
+      → AreShown (shape_of mid) after image (read_devices (shape_of mid)) ubers
       → AreChosen (shape_of mid) after image candidates entries)
       → (image : Image) → HoldsImage old image
       → AreChosen (shape_of old) after image candidates entries
   chosen_after candidates entries chosen image holds =
       subst (λ (shape : Shape). AreChosen shape after image candidates entries) (shape_then same)
       (chosen image (holds_then same holds)
-      (subst (λ (shape : Shape). AreShown shape after image (read_devices shape) copies) (sym (shape_then same))
-      (shown_within (shape_of old) before after image (read_devices (shape_of old)) copies within (shown image holds))))
+      (subst (λ (shape : Shape). AreShown shape after image (read_devices shape) ubers) (sym (shape_then same))
+      (shown_within (shape_of old) before after image (read_devices (shape_of old)) ubers within (shown image holds))))
 
 -- Nothing was found: why.
 pub find_cause : (old new : Disk) (silent : ℕ) (why : OpenWhy) → IsNothingFound silent why → HaveFailed old new silent

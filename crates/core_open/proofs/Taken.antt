@@ -1,5 +1,6 @@
 -- Which devices show an uberblock, of whatever pool and for whatever number, as their rings are read.
-use Rattle.std.proofs.Common.{◌≡◌, ◌≢◌, ◌⊎◌, inl, inr, ⊎_elim, ℕ, ◌+◌, ◌<◌, ◌≤◌, List, None, Some, true, false, sym, ◌∙◌, subst, arith}
+use Rattle.std.proofs.Common.{◌≡◌, ◌≢◌, ◌⊎◌, inl, inr, ⊎_elim, ℕ, ◌+◌, ◌<◌, ◌≤◌, List, None, Some, true, false, sym}
+use Rattle.std.proofs.Common.{◌∙◌, subst, arith}
 use Rattle.std.specs.Prelude.{min}
 use Rattle.std.proofs.lemmas.Bool.{cases_Bool, cases_eq, cases_lt, false≢true, true≢false}
 use Rattle.bank_trait.specs.Disk.{Image, Disk, Unchanged}
@@ -8,18 +9,18 @@ use Rattle.uberblock_ring.specs.Uberblock.{slot_of}
 use Rattle.uberblock_ring.specs.Valid.{IsRightUber, IsValidIn}
 use Rattle.uberblock_ring.proofs.DeviceSets.{has_with, none_in, others_with}
 use Rattle.uberblock_ring.proofs.OneSpelling.{valid_tells}
-use Rattle.attach_ring.specs.declared.taken.SlotCopy.{SlotCopy}
+use Rattle.attach_ring.specs.declared.taken.SlotUber.{SlotUber}
 use Rattle.attach_ring.specs.Ring.{IsTakenSlot}
 use Rattle.core_state.specs.Shown.{Shape, read_devices}
 use Rattle.core_state.specs.Choosing.{IsTakenDevice}
-use Rattle.core_open.specs.Copies.{AreTaken, HasSlotCopy, IsListedFor, ShowsIn}
-use Rattle.core_open.specs.declared.uber_copy.UberCopy.{UberCopy}
+use Rattle.core_open.specs.RingUbers.{AreTaken, HasSlotUber, IsListedFor, ShowsIn}
+use Rattle.core_open.specs.declared.ring_uber.RingUber.{RingUber}
 use Rattle.core_open.specs.Holds.{HoldsImage, shape_of}
 use Rattle.core_open.proofs.ReadTo.{IsReading, reading_more, reading_past}
 use Rattle.core_open.proofs.Unchanged.{holds_then, shape_then}
 
--- A slot that has no copy shows no uberblock of the device.
-pub shows_nothing : (shape : Shape) (image : Image) (device slot : ℕ) → HasSlotCopy image device slot None
+-- A slot that has no uberblock shows no uberblock of the device.
+pub shows_nothing : (shape : Shape) (image : Image) (device slot : ℕ) → HasSlotUber image device slot None
     → ShowsIn shape image device slot None
 shows_nothing shape image device slot free uber shows same =
     let low : device < 16 = omega (arith, shows.device_in) in
@@ -31,26 +32,26 @@ shows_nothing shape image device slot free uber shows same =
     })
 
 module _ (shape : Shape) (image : Image) (device slot : ℕ) (device_in : device < read_devices shape)
-    (sector_in : slot < shape.sectors) (copy : SlotCopy) (has : HasSlotCopy image device slot (Some copy)) where
-  -- A copy for the device itself is one that it shows,
-  pub shows_own : copy.number ≡ device → ShowsIn shape image device slot (Some copy.uber)
+    (sector_in : slot < shape.sectors) (ring_uber : SlotUber) (has : HasSlotUber image device slot (Some ring_uber)) where
+  -- An uberblock for the device itself is one that it shows,
+  pub shows_own : ring_uber.number ≡ device → ShowsIn shape image device slot (Some ring_uber.uber)
   shows_own own =
-      let here : IsValidIn copy.uber device slot (image device slot) =
-      subst (λ (number : ℕ). IsValidIn copy.uber number slot (image device slot)) own has.1 in
-      let at : slot ≡ slot_of copy.uber.group = here.slot_is in (
+      let here : IsValidIn ring_uber.uber device slot (image device slot) =
+      subst (λ (number : ℕ). IsValidIn ring_uber.uber number slot (image device slot)) own has.1 in
+      let at : slot ≡ slot_of ring_uber.uber.group = here.slot_is in (
         record {
           device_in = device_in;
           slot_in = omega (arith, sector_in, at);
-          valid = subst (λ (s : ℕ). IsValidIn copy.uber device s (image device s)) at here;
+          valid = subst (λ (s : ℕ). IsValidIn ring_uber.uber device s (image device s)) at here;
         },
         sym at,
       )
 
   -- and beside one for another it shows none there.
-  pub shows_no_other : copy.number ≢ device → ShowsIn shape image device slot None
+  pub shows_no_other : ring_uber.number ≢ device → ShowsIn shape image device slot None
   shows_no_other other uber shows same =
       let low : device < 16 = omega (arith, shows.device_in) in
-      other (valid_tells copy.uber uber copy.number device slot slot (image device slot) has.0
+      other (valid_tells ring_uber.uber uber ring_uber.number device slot slot (image device slot) has.0
       (omega (arith, low)) has.1 (subst (λ (at : ℕ). IsValidIn uber device at (image device at)) same shows.valid)).1
 
   -- Either takes the device.
@@ -60,7 +61,7 @@ module _ (shape : Shape) (image : Image) (device slot : ℕ) (device_in : device
     slot = slot;
     slot_in = slot_in;
     sector_in = sector_in;
-    taken = record { uber = copy.uber; number = copy.number; fits = has.0; valid = has.1 };
+    taken = record { uber = ring_uber.uber; number = ring_uber.number; fits = has.0; valid = has.1 };
   }
 
 -- The rings of the devices below this one are read, and of this one the slots below this one.
@@ -91,7 +92,7 @@ module _ (shape : Shape) (silent : ℕ) (image : Image) (device : ℕ) where
 
   -- a slot that shows none,
   pub taken_past : (slot taken : ℕ) → IsTakenTo shape silent image device slot taken
-      → HasSlotCopy image device slot None
+      → HasSlotUber image device slot None
       → IsTakenTo shape silent image device (slot + 1) taken
   taken_past slot taken so_far free = record {
     each = so_far.each;
@@ -166,21 +167,21 @@ taken_within shape before after image devices fewer taken within less shown = re
       (cases_Bool (has_device before device))) shows;
 }
 
--- A slot was read that has a copy, for whichever device.
-module _ (device slot silent : ℕ) (old mid new : Disk) (before copies : List UberCopy)
-    (so_far : IsReading device slot silent old mid before copies) (same : Unchanged mid new)
-    (device_in : device < read_devices (shape_of mid)) (sector_in : slot < mid.sectors) (copy : SlotCopy)
-    (has : (image : Image) → HoldsImage mid image → HasSlotCopy image device slot (Some copy)) where
+-- A slot was read that has an uberblock, for whichever device.
+module _ (device slot silent : ℕ) (old mid new : Disk) (before ubers : List RingUber)
+    (so_far : IsReading device slot silent old mid before ubers) (same : Unchanged mid new)
+    (device_in : device < read_devices (shape_of mid)) (sector_in : slot < mid.sectors) (ring_uber : SlotUber)
+    (has : (image : Image) → HoldsImage mid image → HasSlotUber image device slot (Some ring_uber)) where
   -- It is listed where it is for the device itself,
-  pub reading_noted : IsRightUber copy.uber → (after : List UberCopy) → IsListedFor device copy copies after
+  pub reading_noted : IsRightUber ring_uber.uber → (after : List RingUber) → IsListedFor device ring_uber ubers after
       → IsReading device (slot + 1) silent old new before after
   reading_noted right after listed = ⊎_elim
       (λ own. subst (IsReading device (slot + 1) silent old new before) (sym own.1)
-      (reading_more device slot silent old mid new before copies so_far same copy.uber right
-      (λ image holds. shows_own (shape_of mid) image device slot device_in sector_in copy (has image holds) own.0)))
+      (reading_more device slot silent old mid new before ubers so_far same ring_uber.uber right
+      (λ image holds. shows_own (shape_of mid) image device slot device_in sector_in ring_uber (has image holds) own.0)))
       (λ other. subst (IsReading device (slot + 1) silent old new before) (sym other.1)
-      (reading_past device slot silent old mid new before copies so_far same
-      (λ image holds. shows_no_other (shape_of mid) image device slot device_in sector_in copy (has image holds)
+      (reading_past device slot silent old mid new before ubers so_far same
+      (λ image holds. shows_no_other (shape_of mid) image device slot device_in sector_in ring_uber (has image holds)
       other.0)))
       listed
 
@@ -192,4 +193,4 @@ module _ (device slot silent : ℕ) (old mid new : Disk) (before copies : List U
       (takes (shape_of old) image device slot
       (subst (λ (s : Shape). device < read_devices s) (shape_then so_far.unchanged) device_in)
       (subst (λ (s : Shape). slot < s.sectors) (shape_then so_far.unchanged) sector_in)
-      copy (has image (holds_then so_far.unchanged holds)) slot_in)
+      ring_uber (has image (holds_then so_far.unchanged holds)) slot_in)

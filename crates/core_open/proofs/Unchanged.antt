@@ -7,7 +7,7 @@ use Rattle.core_state.specs.Keeps.{Kept, Setting}
 use Rattle.core_state.specs.Collision.{BankKeeps}
 use Rattle.core_state.specs.Moment.{KeepsSince}
 use Rattle.core_state.proofs.Since.{might_at}
-use Rattle.core_open.specs.declared.uber_copy.UberCopy.{UberCopy}
+use Rattle.core_open.specs.declared.ring_uber.RingUber.{RingUber}
 use Rattle.core_open.specs.Candidates.{FirstHasRoom}
 use Rattle.core_open.specs.Holds.{HoldsImage, shape_of}
 
@@ -70,10 +70,10 @@ shape_then same = λ i. record {
 }
 
 -- What has room on its devices had it.
-pub room_then : {old mid : Disk} (copies : List UberCopy) → Unchanged old mid
-    → FirstHasRoom mid.sectors copies → FirstHasRoom old.sectors copies
-room_then copies same room =
-    subst (λ sectors. FirstHasRoom sectors copies) same.goes_on.later.sectors room
+pub room_then : {old mid : Disk} (ubers : List RingUber) → Unchanged old mid
+    → FirstHasRoom mid.sectors ubers → FirstHasRoom old.sectors ubers
+room_then ubers same room =
+    subst (λ sectors. FirstHasRoom sectors ubers) same.goes_on.later.sectors room
 
 -- Reads alone keep what was kept.
 pub unchanged_keeps : (setting : Setting) (first : Kept) (later joined : List Kept) {old new : Disk}

@@ -1,5 +1,6 @@
 -- The winner of the votes is the pool that an opening chooses.
-use Rattle.std.proofs.Common.{◌≡◌, ◌≢◌, inl, inr, ⊎_elim, ℕ, ◌+◌, ◌<◌, ◌≤◌, false, List, [], ◌∷◌, length, sym, ◌∙◌, ap, subst, arith, get_or}
+use Rattle.std.proofs.Common.{◌≡◌, ◌≢◌, inl, inr, ⊎_elim, ℕ, ◌+◌, ◌<◌, ◌≤◌, false, List, [], ◌∷◌, length, sym, ◌∙◌, ap}
+use Rattle.std.proofs.Common.{subst, arith, get_or}
 use Rattle.std.specs.Prelude.{All, Contains, nat_eq, IfNone, IfSome, None, Option, Some}
 use Rattle.std.specs.List.{IsDistinct}
 use Rattle.std.proofs.lemmas.Bool.{cases_eq, cases_lt}
@@ -10,29 +11,30 @@ use Rattle.uberblock_ring.specs.Devices.{has_device}
 use Rattle.uberblock_ring.specs.Uberblock.{Uber, slot_of}
 use Rattle.core_state.specs.Shown.{Shape, Shows, read_devices}
 use Rattle.core_state.specs.Choosing.{IsChosenPool, Names, Outvotes}
-use Rattle.core_open.specs.declared.uber_copy.UberCopy.{UberCopy}
+use Rattle.core_open.specs.declared.ring_uber.RingUber.{RingUber}
 use Rattle.core_open.specs.declared.votes.Vote.{Vote}
-use Rattle.core_open.specs.Copies.{AreShown}
+use Rattle.core_open.specs.RingUbers.{AreShown}
 use Rattle.core_open.specs.Votes.{AreVotes, IsPoolChoice, IsVote, IsWinner, votes_for}
 use Rattle.core_open.proofs.ReadTo.{shown_once}
-use Rattle.core_open.proofs.Voters.{each_voter, length-voters, some_votes, vote_by, voters, voters_distinct, voters_most, voter_listed}
+use Rattle.core_open.proofs.Voters.{each_voter, length-voters, some_votes, vote_by, voters, voters_distinct}
+use Rattle.core_open.proofs.Voters.{voters_most, voter_listed}
 
 -- the vote at a place
 abbrev vote_at : List Vote → ℕ → Vote
 vote_at votes place = get_or votes place (vote_by 0 0)
 
-module _ (shape : Shape) (silent : ℕ) (image : Image) (copies : List UberCopy)
-    (shown : AreShown shape silent image (read_devices shape) copies)
-    (votes : List Vote) (cast : AreVotes copies silent votes) where
-  listed_shows : (device : ℕ) (uber : Uber) → Contains copies (record { device = device; uber = uber })
+module _ (shape : Shape) (silent : ℕ) (image : Image) (ubers : List RingUber)
+    (shown : AreShown shape silent image (read_devices shape) ubers)
+    (votes : List Vote) (cast : AreVotes ubers silent votes) where
+  listed_shows : (device : ℕ) (uber : Uber) → Contains ubers (record { device = device; uber = uber })
       → Shows shape image device uber
-  listed_shows device uber listed = All-contains (λ (copy : UberCopy). Shows shape image copy.device copy.uber) copies
+  listed_shows device uber listed = All-contains (λ (ring_uber : RingUber). Shows shape image ring_uber.device ring_uber.uber) ubers
       (record { device = device; uber = uber }) shown.each listed
 
   -- A vote names its pool,
   vote_names : (pool device : ℕ) → Contains votes (vote_by pool device) → Names shape silent image pool device
   vote_names pool device listed =
-      let both = All-contains (λ (vote : Vote). (has_device silent vote.device ≡ false) × IsVote copies vote) votes
+      let both = All-contains (λ (vote : Vote). (has_device silent vote.device ≡ false) × IsVote ubers vote) votes
       (vote_by pool device) cast.each listed in record {
         reads = both.0;
         uber = both.1.uber;
@@ -46,8 +48,8 @@ module _ (shape : Shape) (silent : ℕ) (image : Image) (copies : List UberCopy)
   names_vote pool device names =
       let there = shown.every device names.uber names.shows.device_in names.reads names.shows in
       let voted = cast.every (record { device = device; uber = names.uber }) names.reads there in
-      let vote : IsVote copies (vote_by voted.0 device) =
-      (All-contains (λ (vote : Vote). (has_device silent vote.device ≡ false) × IsVote copies vote) votes
+      let vote : IsVote ubers (vote_by voted.0 device) =
+      (All-contains (λ (vote : Vote). (has_device silent vote.device ≡ false) × IsVote ubers vote) votes
       (vote_by voted.0 device) cast.each voted.1).1 in
       let shows = listed_shows device vote.uber vote.listed in
       let level : vote.uber.group ≡ names.uber.group =
@@ -181,12 +183,12 @@ chosen_once shape silent image one other first next = ⊎_elim
         let more : high < low = All-contains (λ d. high < d) voters low under low_in in omega (arith, less, more)
 
 -- What the votes say is what is chosen.
-pub pool_choice : (shape : Shape) (silent : ℕ) (image : Image) (copies : List UberCopy)
-    → AreShown shape silent image (read_devices shape) copies
-    → (votes : List Vote) → AreVotes copies silent votes
+pub pool_choice : (shape : Shape) (silent : ℕ) (image : Image) (ubers : List RingUber)
+    → AreShown shape silent image (read_devices shape) ubers
+    → (votes : List Vote) → AreVotes ubers silent votes
     → (winner : Option ℕ) → IfSome winner (IsWinner votes) → IfNone winner (votes ≡ [])
     → IsPoolChoice shape silent image winner
-pool_choice shape silent image copies shown votes cast None wins none =
-    no_votes shape silent image copies shown votes cast none
-pool_choice shape silent image copies shown votes cast (Some pool) wins none =
-    winner_chosen shape silent image copies shown votes cast pool wins
+pool_choice shape silent image ubers shown votes cast None wins none =
+    no_votes shape silent image ubers shown votes cast none
+pool_choice shape silent image ubers shown votes cast (Some pool) wins none =
+    winner_chosen shape silent image ubers shown votes cast pool wins

@@ -1,5 +1,6 @@
 -- What the writes of an opening keep, and who is out after them.
-use Rattle.std.proofs.Common.{◌≡◌, ◌⊎◌, inl, inr, ⊎_elim, ℕ, ◌+◌, ◌^◌, ◌<◌, ◌≤◌, List, Bool, true, false, Result, Ok, refl, sym, ◌∙◌, ap, subst, arith, ◌∷◌}
+use Rattle.std.proofs.Common.{◌≡◌, ◌⊎◌, inl, inr, ⊎_elim, ℕ, ◌+◌, ◌^◌, ◌<◌, ◌≤◌, List, Bool, true, false, Result, Ok}
+use Rattle.std.proofs.Common.{refl, sym, ◌∙◌, ap, subst, arith, ◌∷◌}
 use Rattle.std.proofs.lemmas.Bool.{cases_lt}
 use Rattle.bank_trait.specs.Causes.{FaultCounted}
 use Rattle.bank_trait.specs.Disk.{Image, Disk, Lawful, Later, Unchanged}
@@ -24,15 +25,16 @@ use Rattle.core_open.specs.Causes.{IsChoiceWithout, IsShownChoice, AreTooMany}
 use Rattle.core_open.specs.Failing.{HaveFailed}
 use Rattle.core_open.specs.Finding.{IsFoundIn, FitsOpening}
 use Rattle.core_open.specs.Holds.{HoldsImage, shape_of}
-use Rattle.core_open.specs.Opens.{IsSizedAsOne, MayOpen, IsWithinBelow, HasOpened, OpeningKeeps, CutsOpening, IsOpenedWith, HasRenewed, HasSpread, every_device}
+use Rattle.core_open.specs.Opens.{IsSizedAsOne, MayOpen, IsWithinBelow, HasOpened, OpeningKeeps, CutsOpening}
+use Rattle.core_open.specs.Opens.{IsOpenedWith, HasRenewed, HasSpread, every_device}
 use Rattle.core_open.specs.OpensFound.{WritesFound}
-use Rattle.core_open.proofs.ChosenCopies.{AreRead}
+use Rattle.core_open.proofs.ChosenSpread.{AreRead}
 use Rattle.core_open.specs.Writes.{IsRenewal, renewed_by}
 use Rattle.core_commit.proofs.Writing.{writes_none}
 use Rattle.core_open.proofs.InOrder.{in_order, renewed_in_order}
 use Rattle.core_open.proofs.Others.{found_touches}
-use Rattle.core_open.proofs.Ends.{present_held, sized_as_chosen, since_copied, since_renewed, opened_next}
-use Rattle.core_open.proofs.Renewal.{count_within}
+use Rattle.core_open.proofs.Ends.{present_held, sized_as_chosen, since_spread, since_renewed, opened_next}
+use Rattle.uberblock_ring.proofs.DeviceSets.{count_within}
 use Rattle.core_open.proofs.Unchanged.{unchanged_then, holds_then}
 
 -- It lists no device.
@@ -160,7 +162,7 @@ module _ (found : Found) (old mid new : Disk) (lawful : Lawful old) (same_found 
         → HasRenewed found.uber found.entries.items writes.lack_page found.lacks_uber before renewed after ended
         → Went after.disk after.out
     went_renewed renewed after ended ran =
-        let first = went_spread ran.mid (Ok ran.value) ran.copied in
+        let first = went_spread ran.mid (Ok ran.value) ran.brought in
         record {
           later = later_trans first.later ran.spread.spares.later;
           each = λ device has. ⊎_elim
@@ -207,12 +209,12 @@ module _ (found : Found) (old mid new : Disk) (lawful : Lawful old) (same_found 
         → IsWithinBelow found.uber.reflow.to found.silent listed
     missed listed stay device below gone = gone_listed listed stay device (found_missed device below gone)
 
-    -- An opening that stopped among its copies,
-    pub keeps_copied : (ended : Result (Unit {0}) TooManyOut)
+    -- An opening that stopped while it brought the chosen group to devices,
+    pub keeps_spread : (ended : Result (Unit {0}) TooManyOut)
         → HasSpread found.uber found.entries.items writes.lack_page found.lacks_uber before (point_of out new) ended
         → OpeningKeeps found.silent found.out old new
-    keeps_copied ended spread = record {
-      since = λ setting first later may within all. since_copied setting first later old may lawful before same_asked
+    keeps_spread ended spread = record {
+      since = λ setting first later may within all. since_spread setting first later old may lawful before same_asked
           found.silent found.device found.uber found.entries.items
           (found_in (present old) (present_held old may.tells)).chosen writes.lack_page found.lacks_uber
           (are_read may.tells) right within
@@ -229,7 +231,7 @@ module _ (found : Found) (old mid new : Disk) (lawful : Lawful old) (same_found 
           found.silent found.device found.uber found.entries.items
           (found_in (present old) (present_held old may.tells)).chosen writes.lack_page found.lacks_uber
           (are_read may.tells) right within
-          ran.mid ran.value ran.copied all (lists may.tells) ran.few writes.limit
+          ran.mid ran.value ran.brought all (lists may.tells) ran.few writes.limit
           (point_of out new) ended
           (subst (λ (u : Uber). HasSpread u found.entries.items 0 every_device ran.mid (point_of out new) ended)
           ran.renewed_is ran.spread);
@@ -268,7 +270,7 @@ module _ (found : Found) (old mid new : Disk) (lawful : Lawful old) (same_found 
               found.silent found.device found.uber found.entries.items
               (found_in (present old) (present_held old may.tells)).chosen writes.lack_page found.lacks_uber
               (are_read may.tells) right within
-              ran.mid ran.value ran.copied listed (lists may.tells) ran.few writes.limit
+              ran.mid ran.value ran.brought listed (lists may.tells) ran.few writes.limit
               (point_of out new) value
               (subst (λ (u : Uber). HasSpread u found.entries.items 0 every_device ran.mid (point_of out new) (Ok value))
               ran.renewed_is ran.spread) all
@@ -286,11 +288,11 @@ module _ (found : Found) (old mid new : Disk) (lawful : Lawful old) (same_found 
         let few = ran.few.1 in
         omega (arith, few, all)
 
-    -- It was cut short among the copies,
-    pub cut_copied : (ended : Result (Unit {0}) TooManyOut)
+    -- It was cut short there,
+    pub cut_spread : (ended : Result (Unit {0}) TooManyOut)
         → HasSpread found.uber found.entries.items writes.lack_page found.lacks_uber before (point_of out new) ended
         → (cut : CutsOpening old new) × IsWithin cut.borne out
-    cut_copied ended spread = (
+    cut_spread ended spread = (
       record {
         silent = found.silent;
         failed = silent_now;
@@ -305,7 +307,7 @@ module _ (found : Found) (old mid new : Disk) (lawful : Lawful old) (same_found 
           parity_is = refl;
           each = λ device has. inl (out_found image holds device has);
         };
-        keeps = keeps_copied ended spread;
+        keeps = keeps_spread ended spread;
         only = found_touches found out result same_found writes;
         writes = (
           renewed_by found.uber 0,
@@ -329,7 +331,7 @@ module _ (found : Found) (old mid new : Disk) (lawful : Lawful old) (same_found 
         parity = found.uber.parity;
         borne = ran.mid.out;
         few = few_renewed renewed ended ran;
-        missed = missed ran.mid.out ran.copied.gone.stay;
+        missed = missed ran.mid.out ran.brought.gone.stay;
         each = λ image holds. record {
           choice = choice image holds;
           width_is = refl;

@@ -1,5 +1,6 @@
 -- Which uberblocks of a pool are candidates, and those of the greatest group that has any.
-use Rattle.std.specs.Prelude.{◌≡◌, ◌⊎◌, ℕ, ◌+◌, ◌<◌, ◌≤◌, List, [], ◌∷◌, ◌++◌, Option, Some, None, length, All, Contains, slice_get, false}
+use Rattle.std.specs.Prelude.{◌≡◌, ◌⊎◌, ℕ, ◌+◌, ◌<◌, ◌≤◌, List, [], ◌∷◌, ◌++◌, Option, Some, None, length, All}
+use Rattle.std.specs.Prelude.{Contains, slice_get, false}
 use Rattle.std.specs.declared.alloc.Global.{Global}
 use Rattle.std.specs.Prelude.{Vec}
 use Rattle.bank_trait.specs.Disk.{Image, Disk}
@@ -11,8 +12,8 @@ use Rattle.core_state.specs.Index.{IsFitting}
 use Rattle.core_state.specs.Shown.{Shape, Gives, IsCandidate}
 use Rattle.core_state.specs.Choosing.{IsChosenPool, IsNotPool}
 use Rattle.core_open.specs.declared.candidates.GivenIndex.{GivenIndex}
-use Rattle.core_open.specs.declared.uber_copy.UberCopy.{UberCopy}
-use Rattle.core_open.specs.Copies.{AreOfOneGroup}
+use Rattle.core_open.specs.declared.ring_uber.RingUber.{RingUber}
+use Rattle.core_open.specs.RingUbers.{AreOfOneGroup}
 use Rattle.core_open.specs.Lacking.{IsFirstGiver}
 
 -- The data rows are on the devices, and one outside the set gives the page, which fits.
@@ -43,54 +44,54 @@ pub record IsIndexFor (uber : Uber) (entries : List IndexEntry) : Type 0 where
   pub counted : length entries ≡ uber.count
   pub fitting : IsFitting uber entries
 
--- The same of the first copy, if there is one,
-abbrev pub FirstFits : List UberCopy → List IndexEntry → Type 0
-FirstFits copies entries =
-    (first : UberCopy) → slice_get copies 0 ≡ Some first → IsIndexFor first.uber entries
+-- The same of the first uberblock, if there is one,
+abbrev pub FirstFits : List RingUber → List IndexEntry → Type 0
+FirstFits ubers entries =
+    (first : RingUber) → slice_get ubers 0 ≡ Some first → IsIndexFor first.uber entries
 
 -- that its data rows are within so many sectors of a device,
-abbrev pub FirstHasRoom : ℕ → List UberCopy → Type 0
-FirstHasRoom sectors copies = (first : UberCopy) → slice_get copies 0 ≡ Some first
+abbrev pub FirstHasRoom : ℕ → List RingUber → Type 0
+FirstHasRoom sectors ubers = (first : RingUber) → slice_get ubers 0 ≡ Some first
     → 192 + first.uber.reflow.rows ≤ sectors
 
 -- that this device is the first that gives the page of these entries,
-abbrev pub FirstIsGiven : Disk → ℕ → List UberCopy → List IndexEntry → ℕ → Type 0
-FirstIsGiven disk silent copies entries giver = (first : UberCopy)
-    → slice_get copies 0 ≡ Some first → IsFirstGiver disk silent first.uber entries giver
+abbrev pub FirstIsGiven : Disk → ℕ → List RingUber → List IndexEntry → ℕ → Type 0
+FirstIsGiven disk silent ubers entries giver = (first : RingUber)
+    → slice_get ubers 0 ≡ Some first → IsFirstGiver disk silent first.uber entries giver
 
 -- and that it has this index.
-abbrev pub FirstHas : Shape → ℕ → Image → List UberCopy → List IndexEntry → Type 0
-FirstHas shape silent image copies entries = (first : UberCopy) → slice_get copies 0 ≡ Some first
+abbrev pub FirstHas : Shape → ℕ → Image → List RingUber → List IndexEntry → Type 0
+FirstHas shape silent image ubers entries = (first : RingUber) → slice_get ubers 0 ≡ Some first
     → HasIndex shape silent image first.uber entries
 
--- The copy was added if its uberblock has an index, and only then.
-abbrev pub IsConsidered : Shape → ℕ → Image → UberCopy → List UberCopy → List UberCopy → Type 0
-IsConsidered shape silent image copy before after =
-    ((after ≡ before ++ copy ∷ [])
-    × ((entries : List IndexEntry) × HasIndex shape silent image copy.uber entries))
+-- The uberblock was added if its uberblock has an index, and only then.
+abbrev pub IsConsidered : Shape → ℕ → Image → RingUber → List RingUber → List RingUber → Type 0
+IsConsidered shape silent image ring_uber before after =
+    ((after ≡ before ++ ring_uber ∷ [])
+    × ((entries : List IndexEntry) × HasIndex shape silent image ring_uber.uber entries))
     ⊎ ((after ≡ before)
-    × ((entries : List IndexEntry) → HasIndex shape silent image copy.uber entries → ⊥))
+    × ((entries : List IndexEntry) → HasIndex shape silent image ring_uber.uber entries → ⊥))
 
 -- They are the pool's candidates of the greatest group that has any, by device, on devices that
 -- aren't silent; and the entries are the first one's.
 pub record AreNewest (shape : Shape) (silent : ℕ) (image : Image) (pool : ℕ)
-    (copies : List UberCopy) (entries : List IndexEntry) : Type 0 where
-  pub each : All (λ copy. (has_device silent copy.device ≡ false)
+    (ubers : List RingUber) (entries : List IndexEntry) : Type 0 where
+  pub each : All (λ ring_uber. (has_device silent ring_uber.device ≡ false)
       × ((listed : List IndexEntry)
-      × IsCandidate shape silent pool image copy.device copy.uber listed)) copies
+      × IsCandidate shape silent pool image ring_uber.device ring_uber.uber listed)) ubers
   pub every : (device : ℕ) (uber : Uber) (listed : List IndexEntry)
       → has_device silent device ≡ false
       → IsCandidate shape silent pool image device uber listed
-      → Contains copies (record { device = device; uber = uber })
-      ⊎ ((copy : UberCopy) × Contains copies copy × (uber.group < copy.uber.group))
-  pub order : AreOfOneGroup copies
-  pub first : (copy : UberCopy) → slice_get copies 0 ≡ Some copy
-      → IsCandidate shape silent pool image copy.device copy.uber entries
+      → Contains ubers (record { device = device; uber = uber })
+      ⊎ ((ring_uber : RingUber) × Contains ubers ring_uber × (uber.group < ring_uber.uber.group))
+  pub order : AreOfOneGroup ubers
+  pub first : (ring_uber : RingUber) → slice_get ubers 0 ≡ Some ring_uber
+      → IsCandidate shape silent pool image ring_uber.device ring_uber.uber entries
 
 -- They are those of the pool that is chosen. If there are none there is nothing to open.
-pub record AreChosen (shape : Shape) (silent : ℕ) (image : Image) (copies : List UberCopy)
+pub record AreChosen (shape : Shape) (silent : ℕ) (image : Image) (ubers : List RingUber)
     (entries : List IndexEntry) : Type 0 where
-  pub none : copies ≡ [] → IsNotPool shape silent image
-  pub some : (first : UberCopy) → slice_get copies 0 ≡ Some first
+  pub none : ubers ≡ [] → IsNotPool shape silent image
+  pub some : (first : RingUber) → slice_get ubers 0 ≡ Some first
       → IsChosenPool shape silent image first.uber.pool
-      × AreNewest shape silent image first.uber.pool copies entries
+      × AreNewest shape silent image first.uber.pool ubers entries

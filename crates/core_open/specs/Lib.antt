@@ -1,5 +1,5 @@
 pub mod Candidates
-pub mod Copies
+pub mod RingUbers
 pub mod Failing
 pub mod Finding
 pub mod Holds
@@ -14,3 +14,9 @@ pub mod Sets
 pub mod Spans
 pub mod Votes
 pub mod Writes
+pub mod Pool
+pub mod HoldsGroup
+pub mod NextGroup
+pub mod Answered
+pub mod Opening
+pub mod Stopped

@@ -1,5 +1,6 @@
 -- What an opening keeps of what images kept when it began, and the group with which it ends.
-use Rattle.std.specs.Prelude.{◌≡◌, ◌⊎◌, ℕ, ◌^◌, ◌+◌, ◌<◌, ◌≤◌, true, List, [], ◌∷◌, ◌++◌, length, Contains, Result, Ok, Err}
+use Rattle.std.specs.Prelude.{◌≡◌, ◌⊎◌, ℕ, ◌^◌, ◌+◌, ◌<◌, ◌≤◌, true, List, [], ◌∷◌, ◌++◌, length, Contains, Result, Ok}
+use Rattle.std.specs.Prelude.{Err}
 use Rattle.bank_trait.specs.Causes.{FaultCounted}
 use Rattle.bank_trait.specs.Disk.{Image, Disk, Unchanged}
 use Rattle.bank_trait.specs.Regions.{Tells, TouchesOnly}
@@ -15,8 +16,8 @@ use Rattle.core_state.specs.Certain.{IsCertain, Knows}
 use Rattle.core_state.specs.Committing.{Point}
 use Rattle.core_state.specs.Moment.{KeepsSince}
 use Rattle.core_commit.specs.declared.committing.TooManyOut.{TooManyOut}
-use Rattle.core_commit.specs.Copies.{CopyKeeps}
-use Rattle.core_commit.specs.Writing.{IsCopyOf, WritesOnly}
+use Rattle.core_commit.specs.Spread.{SpreadKeeps}
+use Rattle.core_commit.specs.Writing.{IsSpreadOf, WritesOnly}
 use Rattle.core_commit.specs.Spared.{HaveGoneOut, SparesData, StopsInTime, TouchesGroup}
 use Rattle.core_open.specs.declared.why.OpenWhy.{OpenWhy}
 use Rattle.core_open.specs.declared.why.OpenWhy.TheVariants as reason
@@ -177,32 +178,32 @@ IsForMemory old new why = (setting : Setting) (first : Kept) (later : List Kept)
     → IsUnhindered setting first later old new
     → why ≡ reason.NoMemory
 
--- One run of copies.
+-- A group was brought to devices, or as far as that went.
 pub record HasSpread (uber : Uber) (entries : List IndexEntry) (lack_page lack_uber : ℕ)
     (before after : Point) (result : Result (Unit {0}) TooManyOut) : Type 0 where
-  pub keeps : CopyKeeps uber entries lack_page lack_uber before after result
-  pub writes : WritesOnly (IsCopyOf uber entries lack_page lack_uber before.out) before.disk after.disk
+  pub keeps : SpreadKeeps uber entries lack_page lack_uber before after result
+  pub writes : WritesOnly (IsSpreadOf uber entries lack_page lack_uber before.out) before.disk after.disk
   pub gone : HaveGoneOut before before.out after
   pub spares : SparesData before after
   pub touches : TouchesGroup uber before after
   pub stops : StopsInTime uber.parity before after
 
--- The chosen group was copied to the devices that lack it, and then the next one's uberblock to each.
+-- The chosen group was brought to the devices that lack it, and then the next one's uberblock to each.
 pub record HasRenewed (uber : Uber) (entries : List IndexEntry) (lack_page lack_uber : ℕ)
     (before : Point) (renewed : Uber) (after : Point) (result : Result (Unit {0}) TooManyOut) : Type 0
   where
     pub mid : Point
     pub value : Unit {0}
-    pub copied : HasSpread uber entries lack_page lack_uber before mid (Ok value)
+    pub brought : HasSpread uber entries lack_page lack_uber before mid (Ok value)
     pub few : (mid.out < 2 ^ uber.reflow.to) × (count_below mid.out uber.reflow.to ≤ uber.parity)
     pub renewed_is : renewed ≡ renewed_by uber mid.out
     pub spread : HasSpread renewed entries 0 every_device mid after result
 
--- Too many devices went out among the copies of the chosen group.
-pub record StopsCopying (uber : Uber) (entries : List IndexEntry) (lack_page lack_uber : ℕ)
+-- Too many devices went out while the chosen group was brought to them.
+pub record StopsSpreading (uber : Uber) (entries : List IndexEntry) (lack_page lack_uber : ℕ)
     (before after : Point) : Type 0 where
   pub why : TooManyOut
-  pub copied : HasSpread uber entries lack_page lack_uber before after (Err why)
+  pub brought : HasSpread uber entries lack_page lack_uber before after (Err why)
 
 -- Too many went out among the writes of the next one's uberblock.
 pub record StopsRenewing (uber : Uber) (entries : List IndexEntry) (lack_page lack_uber : ℕ)
@@ -218,5 +219,5 @@ EndsRenewal uber entries lack_page lack_uber before after (Ok renewed) =
     × (count_of after.out ≤ uber.parity)
 EndsRenewal uber entries lack_page lack_uber before after (Err why) =
     (why ≡ reason.TooManyFailed after.out) × (uber.parity < count_of after.out)
-    × (StopsCopying uber entries lack_page lack_uber before after
+    × (StopsSpreading uber entries lack_page lack_uber before after
     ⊎ StopsRenewing uber entries lack_page lack_uber before after)

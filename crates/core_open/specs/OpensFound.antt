@@ -12,7 +12,7 @@ use Rattle.core_open.specs.Failing.{HaveFailedSince}
 use Rattle.core_open.specs.Lacking.{AreLacking}
 use Rattle.core_open.specs.Opens.{EndsRenewal}
 
--- No more devices were out than there are parities. The others were asked for the page, and then copies and
+-- No more devices were out than there are parities. The others were asked for the page, and then that group and
 -- the next group's uberblock were written; some devices went out in each.
 pub record WritesFound (found : Found) (old new : Disk) (out : ℕ) (result : Result Uber OpenWhy) :
     Type 0 where

@@ -1,26 +1,27 @@
 -- How the devices vote for a pool.
-use Rattle.std.specs.Prelude.{◌≡◌, ℕ, ◌<◌, ◌≤◌, ◌==◌, List, Option, Some, None, length, All, AllPairs, Contains, count_by, slice_index_or, false}
+use Rattle.std.specs.Prelude.{◌≡◌, ℕ, ◌<◌, ◌≤◌, ◌==◌, List, Option, Some, None, length, All, AllPairs, Contains}
+use Rattle.std.specs.Prelude.{count_by, slice_index_or, false}
 use Rattle.bank_trait.specs.Disk.{Image}
 use Rattle.uberblock_ring.specs.Devices.{has_device}
 use Rattle.uberblock_ring.specs.Uberblock.{Uber}
 use Rattle.core_state.specs.Shown.{Shape, Shows}
 use Rattle.core_state.specs.Choosing.{IsChosenPool}
-use Rattle.core_open.specs.declared.uber_copy.UberCopy.{UberCopy}
+use Rattle.core_open.specs.declared.ring_uber.RingUber.{RingUber}
 use Rattle.core_open.specs.declared.votes.Vote.{Vote}
 
--- A device votes for the pool of its copy with the greatest group.
-pub record IsVote (copies : List UberCopy) (vote : Vote) : Type 0 where
+-- A device votes for the pool of its uberblock with the greatest group.
+pub record IsVote (ubers : List RingUber) (vote : Vote) : Type 0 where
   pub uber : Uber
-  pub listed : Contains copies (record { device = vote.device; uber = uber })
-  pub greatest : (other : Uber) → Contains copies (record { device = vote.device; uber = other })
+  pub listed : Contains ubers (record { device = vote.device; uber = uber })
+  pub greatest : (other : Uber) → Contains ubers (record { device = vote.device; uber = other })
       → other.group ≤ uber.group
   pub pool_is : uber.pool ≡ vote.pool
 
--- Each device with a copy that isn't silent votes, and no other; by device.
-pub record AreVotes (copies : List UberCopy) (silent : ℕ) (votes : List Vote) : Type 0 where
-  pub each : All (λ vote. (has_device silent vote.device ≡ false) × IsVote copies vote) votes
-  pub every : (copy : UberCopy) → has_device silent copy.device ≡ false → Contains copies copy
-      → (pool : ℕ) × Contains votes (record { device = copy.device; pool = pool })
+-- Each device with an uberblock that isn't silent votes, and no other; by device.
+pub record AreVotes (ubers : List RingUber) (silent : ℕ) (votes : List Vote) : Type 0 where
+  pub each : All (λ vote. (has_device silent vote.device ≡ false) × IsVote ubers vote) votes
+  pub every : (ring_uber : RingUber) → has_device silent ring_uber.device ≡ false → Contains ubers ring_uber
+      → (pool : ℕ) × Contains votes (record { device = ring_uber.device; pool = pool })
   pub order : AllPairs (λ one other. one.device < other.device) votes
 
 -- how many votes a pool has

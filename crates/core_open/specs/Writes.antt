@@ -5,7 +5,7 @@ use Rattle.block_record.specs.declared.entry.IndexEntry.{IndexEntry}
 use Rattle.uberblock_ring.specs.Devices.{has_device}
 use Rattle.uberblock_ring.specs.Uberblock.{Uber}
 use Rattle.core_state.specs.Choosing.{IsChosen, IsOutAtOpening}
-use Rattle.core_commit.specs.Writing.{IsCopyOf, IsUberCopy, WritesOnly}
+use Rattle.core_commit.specs.Writing.{IsSpreadOf, IsSpreadUber, WritesOnly}
 use Rattle.core_open.specs.Finding.{ShowsTwin}
 use Rattle.core_open.specs.Holds.{HoldsImage, shape_of}
 use Rattle.core_open.specs.Lacking.{LacksPage}
@@ -18,15 +18,15 @@ every_device = 2 ^ 64 - 1
 abbrev pub renewed_by : Uber → ℕ → Uber
 renewed_by uber out = record uber { group = uber.group + 2; out = out }
 
--- The bytes are a copy of the uberblock of an opening's group. Every device counts as lacking it.
+-- The bytes are the uberblock of an opening's group. Every device counts as lacking it.
 abbrev pub IsRenewal : Uber → ℕ → ℕ → ℕ → List ℕ → Type 0
 IsRenewal renewed out device device_sector bytes =
-    IsUberCopy renewed every_device out device device_sector bytes
+    IsSpreadUber renewed every_device out device device_sector bytes
 
--- First copies of the group that the devices choose were written, and nothing else: its index page to devices that
+-- First the group that the devices choose was written, and nothing else: its index page to devices that
 -- lack it, and its uberblock to devices that show none of that group. Then the uberblock that renews it was
 -- written, and nothing else. No device was written that was out at opening. Each of the two may have written all of
--- its copies, some, or none.
+-- that, some of it, or nothing.
 pub record WritesInOrder (old new : Disk) (silent : ℕ) (renewed : Uber) : Type 0 where
   -- The devices choose this group but for the silent ones, and these devices are out then.
   pub device : ℕ
@@ -44,8 +44,8 @@ pub record WritesInOrder (old new : Disk) (silent : ℕ) (renewed : Uber) : Type
   pub lack_uber : ℕ
   pub lacks_uber : (image : Image) → HoldsImage old image → (other : ℕ)
       → has_device lack_uber other ≡ true → ShowsTwin (shape_of old) silent image chosen other → ⊥
-  -- Up to this point its copies alone were written, and from here on the uberblock that renews it.
+  -- Up to this point that alone was written, and from here on the uberblock that renews it.
   pub mid : Disk
-  pub copies : WritesOnly (IsCopyOf chosen entries lack_page lack_uber out) old mid
+  pub brought : WritesOnly (IsSpreadOf chosen entries lack_page lack_uber out) old mid
   pub renewed_is : renewed ≡ renewed_by chosen renewed.out
   pub renewal : WritesOnly (IsRenewal renewed out) mid new

@@ -1,10 +1,12 @@
-// Which copies of uberblocks are candidates.
-ghost use Rattle.std.specs.Prelude.{◌≡◌, ◌≢◌, ◌⊎◌, ◌↔◌, ◌+◌, ◌<◌, ◌≤◌, ◌++◌, ◌∷◌, [], Some, slice_get, IfErr, IfOk, IfSome, IsTrue, OnOk};
+// Which uberblocks of rings are candidates.
+ghost use Rattle.std.specs.Prelude.{◌≡◌, ◌≢◌, ◌⊎◌, ◌↔◌, ◌+◌, ◌<◌, ◌≤◌, ◌++◌, ◌∷◌, [], Some, slice_get, IfErr, IfOk};
+ghost use Rattle.std.specs.Prelude.{IfSome, IsTrue, OnOk};
 ghost use Rattle.bank_trait.specs.Disk.{Image, Unchanged};
 ghost use Rattle.uberblock_ring.specs.Valid.{AreAlike, IsRightUber};
 ghost use Rattle.core_state.specs.Shown.{read_devices};
-ghost use Rattle.core_open.specs.declared.uber_copy.UberCopy.{UberCopy as CopyOf};
-ghost use Rattle.core_open.specs.Candidates.{FirstFits, FirstHas, FirstHasRoom, FirstIsGiven, IsConsidered, IsGivenIndex, IsIndexChoice, IsIndexFor};
+ghost use Rattle.core_open.specs.declared.ring_uber.RingUber.{RingUber as RingUberOf};
+ghost use Rattle.core_open.specs.Candidates.{FirstFits, FirstHas, FirstHasRoom, FirstIsGiven, IsConsidered};
+ghost use Rattle.core_open.specs.Candidates.{IsGivenIndex, IsIndexChoice, IsIndexFor};
 ghost use Rattle.core_open.specs.Failing.{HasStopped, HasStoppedOn};
 ghost use Rattle.core_open.specs.Holds.{HoldsImage, shape_of};
 ghost use Rattle.core_open.specs.Lacking.{IsFirstGiver};
@@ -13,8 +15,8 @@ ghost use Rattle.core_open.specs.Pages.{IsGivenPage};
 use crate::fitting::is_fitting;
 use crate::index_page::{PageFault, read_page};
 use crate::reading::READ_DEVICES;
+use crate::ring_uber::RingUber;
 use crate::stopped::Stopped;
-use crate::uber_copy::UberCopy;
 use bank_trait::Bank;
 use block_record::IndexEntry;
 use std::alloc::{AllocError, Global};
@@ -32,100 +34,100 @@ pub struct GivenIndex {
 /// its page.
 #[derive(Drop)]
 pub struct Candidates {
-    pub copies: Vec<UberCopy>,
+    pub ubers: Vec<RingUber>,
     pub entries: Vec<IndexEntry>,
     pub giver: u32,
 }
 
 impl Candidates {
     pub fn none(alloc: Global) -> Candidates
-        ensures copies { result.copies.items ≡ [] }
+        ensures ubers { result.ubers.items ≡ [] }
         ensures entries { result.entries.items ≡ [] }
     {
         Candidates {
-            copies: Vec::new(alloc),
+            ubers: Vec::new(alloc),
             entries: Vec::new(alloc),
             giver: 0,
         }
     }
 
-    /// Whether there are any, of another group than this copy's.
-    pub fn are_of_another_group(&self, copy: &UberCopy) -> bool
-        ensures { IsTrue result ↔ ((first : CopyOf)
-            × (slice_get self.now.copies.items 0 ≡ Some first)
-            × (first.uber.group ≢ copy.now.uber.group)) }
+    /// Whether there are any, of another group than this uberblock's.
+    pub fn are_of_another_group(&self, ring_uber: &RingUber) -> bool
+        ensures { IsTrue result ↔ ((first : RingUberOf)
+            × (slice_get self.now.ubers.items 0 ≡ Some first)
+            × (first.uber.group ≢ ring_uber.now.uber.group)) }
     {
-        match self.copies.first() {
-            Some(first) => first.uber.group() != copy.uber.group(),
+        match self.ubers.first() {
+            Some(first) => first.uber.group() != ring_uber.uber.group(),
             None => false,
         }
     }
 
-    /// Adds a copy if it is a candidate. An uberblock that differs from the first one's in its out
+    /// Adds an uberblock if it is a candidate. An uberblock that differs from the first one's in its out
     /// set alone has the same index, which is not read again.
     pub fn consider<B: Bank>(
         &mut self,
         alloc: Global,
         bank: &mut B,
-        copy: &UberCopy,
+        ring_uber: &RingUber,
         silent: DeviceSet,
     ) -> Result<(), Stopped>
-        requires right { IsRightUber copy.now.uber }
-        requires first { FirstFits self.old.copies.items self.old.entries.items }
-        requires room { FirstHasRoom (B.disk bank.old).sectors self.old.copies.items }
+        requires right { IsRightUber ring_uber.now.uber }
+        requires first { FirstFits self.old.ubers.items self.old.entries.items }
+        requires room { FirstHasRoom (B.disk bank.old).sectors self.old.ubers.items }
         requires given { FirstIsGiven (B.disk bank.old) silent
-            self.old.copies.items self.old.entries.items self.old.giver }
+            self.old.ubers.items self.old.entries.items self.old.giver }
         ensures unchanged { Unchanged (B.disk bank.old) (B.disk bank.new) }
         ensures stopped { IfErr result (HasStopped silent (B.disk bank.old) (B.disk bank.new)) }
         ensures given { OnOk result (FirstIsGiven (B.disk bank.old) silent
-            self.new.copies.items self.new.entries.items self.new.giver) }
-        ensures first { OnOk result (FirstFits self.new.copies.items self.new.entries.items) }
+            self.new.ubers.items self.new.entries.items self.new.giver) }
+        ensures first { OnOk result (FirstFits self.new.ubers.items self.new.entries.items) }
         ensures room { OnOk result
-            (FirstHasRoom (B.disk bank.old).sectors self.new.copies.items) }
+            (FirstHasRoom (B.disk bank.old).sectors self.new.ubers.items) }
         ensures considered { OnOk result ((image : Image) → HoldsImage (B.disk bank.old) image
             → FirstHas (shape_of (B.disk bank.old)) silent image
-            self.old.copies.items self.old.entries.items
-            → IsConsidered (shape_of (B.disk bank.old)) silent image copy.now
-            self.old.copies.items self.new.copies.items
+            self.old.ubers.items self.old.entries.items
+            → IsConsidered (shape_of (B.disk bank.old)) silent image ring_uber.now
+            self.old.ubers.items self.new.ubers.items
             × FirstHas (shape_of (B.disk bank.old)) silent image
-            self.new.copies.items self.new.entries.items) }
-        ensures copies { OnOk result ((self.new.copies.items ≡ self.old.copies.items)
-            ⊎ (self.new.copies.items ≡ self.old.copies.items ++ copy.now ∷ [])) }
+            self.new.ubers.items self.new.entries.items) }
+        ensures ubers { OnOk result ((self.new.ubers.items ≡ self.old.ubers.items)
+            ⊎ (self.new.ubers.items ≡ self.old.ubers.items ++ ring_uber.now ∷ [])) }
     {
-        if self.first_is_alike(&copy.uber) {
-            self.copies.push(*copy)?;
+        if self.first_is_alike(&ring_uber.uber) {
+            self.ubers.push(*ring_uber)?;
             return Ok(());
         }
-        if let Some(index) = find_index(alloc, bank, &copy.uber, silent)? {
-            self.add(copy, index)?;
+        if let Some(index) = find_index(alloc, bank, &ring_uber.uber, silent)? {
+            self.add(ring_uber, index)?;
         }
         Ok(())
     }
 
-    /// Adds a copy, and takes its index where it is the first.
-    fn add(&mut self, copy: &UberCopy, index: GivenIndex) -> Result<(), AllocError>
-        ensures copies { OnOk result (
-            self.new.copies.items ≡ self.old.copies.items ++ copy.now ∷ []) }
-        ensures first { self.old.copies.items ≡ [] → self.new.entries.items ≡ index.entries.items }
-        ensures giver { self.old.copies.items ≡ [] → self.new.giver ≡ index.device }
-        ensures others { self.old.copies.items ≢ []
+    /// Adds an uberblock, and takes its index where it is the first.
+    fn add(&mut self, ring_uber: &RingUber, index: GivenIndex) -> Result<(), AllocError>
+        ensures ubers { OnOk result (
+            self.new.ubers.items ≡ self.old.ubers.items ++ ring_uber.now ∷ []) }
+        ensures first { self.old.ubers.items ≡ [] → self.new.entries.items ≡ index.entries.items }
+        ensures giver { self.old.ubers.items ≡ [] → self.new.giver ≡ index.device }
+        ensures others { self.old.ubers.items ≢ []
             → self.new.entries.items ≡ self.old.entries.items }
-        ensures same { self.old.copies.items ≢ [] → self.new.giver ≡ self.old.giver }
+        ensures same { self.old.ubers.items ≢ [] → self.new.giver ≡ self.old.giver }
     {
-        if self.copies.is_empty() {
+        if self.ubers.is_empty() {
             self.entries = index.entries;
             self.giver = index.device;
         }
-        self.copies.push(*copy)?;
+        self.ubers.push(*ring_uber)?;
         Ok(())
     }
 
     fn first_is_alike(&self, uber: &Uber) -> bool
-        ensures { IsTrue result ↔ ((first : CopyOf)
-            × (slice_get self.now.copies.items 0 ≡ Some first)
+        ensures { IsTrue result ↔ ((first : RingUberOf)
+            × (slice_get self.now.ubers.items 0 ≡ Some first)
             × AreAlike first.uber uber.now) }
     {
-        match self.copies.first() {
+        match self.ubers.first() {
             Some(first) => are_alike(&first.uber, uber),
             None => false,
         }

@@ -5,7 +5,7 @@ ghost use Rattle.uberblock_ring.specs.Devices.{IsWithin};
 ghost use Rattle.uberblock_ring.specs.Valid.{IsRightUber};
 ghost use Rattle.core_state.specs.Shown.{Shape, read_devices};
 ghost use Rattle.core_open.specs.Candidates.{AreChosen, FirstFits, FirstHasRoom, FirstIsGiven, IsIndexFor};
-ghost use Rattle.core_open.specs.Copies.{AreByGroup, AreRight, AreShown, AreTaken};
+ghost use Rattle.core_open.specs.RingUbers.{AreByGroup, AreRight, AreShown, AreTaken};
 ghost use Rattle.core_open.specs.Failing.{HaveFailed, HaveFailedSince};
 ghost use Rattle.core_open.specs.Finding.{FitsOpening, IsFindCause, IsFoundIn, IsNothingFound};
 ghost use Rattle.core_open.specs.Holds.{HoldsImage, shape_of};
@@ -77,28 +77,28 @@ fn choose_anew<B: Bank>(
     bank: &mut B,
     rings: &mut Rings,
 ) -> Result<Candidates, OpenWhy>
-    requires right { AreRight 16 rings.old.copies.items }
-    requires order { AreByGroup rings.old.copies.items }
-    ensures copies { rings.new.copies.items ≡ rings.old.copies.items }
+    requires right { AreRight 16 rings.old.ubers.items }
+    requires order { AreByGroup rings.old.ubers.items }
+    ensures ubers { rings.new.ubers.items ≡ rings.old.ubers.items }
     ensures taken { rings.new.taken ≡ rings.old.taken }
     ensures within { IsWithin rings.old.silent rings.new.silent }
     ensures silent { HaveFailedSince (B.disk bank.old) (B.disk bank.new)
         rings.old.silent rings.new.silent }
     ensures unchanged { Unchanged (B.disk bank.old) (B.disk bank.new) }
     ensures listed { IfOk result (λ candidates.
-        All (Contains rings.old.copies.items) candidates.copies.items) }
+        All (Contains rings.old.ubers.items) candidates.ubers.items) }
     ensures first { IfOk result (λ candidates.
-        FirstFits candidates.copies.items candidates.entries.items) }
+        FirstFits candidates.ubers.items candidates.entries.items) }
     ensures room { IfOk result (λ candidates.
-        FirstHasRoom (B.disk bank.old).sectors candidates.copies.items) }
+        FirstHasRoom (B.disk bank.old).sectors candidates.ubers.items) }
     ensures given { IfOk result (λ candidates. FirstIsGiven (B.disk bank.old) rings.new.silent
-        candidates.copies.items candidates.entries.items candidates.giver) }
+        candidates.ubers.items candidates.entries.items candidates.giver) }
     ensures chosen { IfOk result (λ candidates. (image : Image)
         → HoldsImage (B.disk bank.old) image
         → AreShown (shape_of (B.disk bank.old)) rings.new.silent image
-        (read_devices (shape_of (B.disk bank.old))) rings.old.copies.items
+        (read_devices (shape_of (B.disk bank.old))) rings.old.ubers.items
         → AreChosen (shape_of (B.disk bank.old)) rings.new.silent image
-        candidates.copies.items candidates.entries.items) }
+        candidates.ubers.items candidates.entries.items) }
     ensures cause { IfErr result (λ why. why ≡ OpenWhy.NoMemory) }
 {
     loop {
@@ -112,38 +112,38 @@ fn choose_anew<B: Bank>(
 
 /// What is found with these candidates of the chosen group on a bank of so many devices.
 fn conclude(devices: u32, rings: &Rings, candidates: Candidates) -> Result<Found, OpenWhy>
-    requires right { AreRight 16 rings.now.copies.items }
-    requires listed { All (Contains rings.now.copies.items) candidates.copies.items }
-    requires first { FirstFits candidates.copies.items candidates.entries.items }
+    requires right { AreRight 16 rings.now.ubers.items }
+    requires listed { All (Contains rings.now.ubers.items) candidates.ubers.items }
+    requires first { FirstFits candidates.ubers.items candidates.entries.items }
     ensures found { IfOk result (λ found. (shape : Shape) (image : Image)
         → shape.devices ≡ devices
-        → AreShown shape rings.now.silent image (read_devices shape) rings.now.copies.items
+        → AreShown shape rings.now.silent image (read_devices shape) rings.now.ubers.items
         → AreTaken shape rings.now.silent image (read_devices shape) rings.now.taken
         → AreChosen shape rings.now.silent image
-        candidates.copies.items candidates.entries.items
+        candidates.ubers.items candidates.entries.items
         → IsFoundIn shape image found) }
     ensures right { IfOk result (λ found. IsRightUber found.uber) }
     ensures index { IfOk result (λ found. IsIndexFor found.uber found.entries.items) }
     ensures fits { IfOk result (λ found. (disk : Disk) → disk.devices ≡ devices
-        → FirstHasRoom disk.sectors candidates.copies.items → FitsOpening disk found) }
+        → FirstHasRoom disk.sectors candidates.ubers.items → FitsOpening disk found) }
     ensures given { IfOk result (λ found. (disk : Disk) → FirstIsGiven disk rings.now.silent
-        candidates.copies.items candidates.entries.items candidates.giver
+        candidates.ubers.items candidates.entries.items candidates.giver
         → IsFirstGiver disk found.silent found.uber found.entries.items found.giver) }
     ensures silent { IfOk result (λ found. found.silent ≡ rings.now.silent) }
-    ensures none { OnErr result (candidates.copies.items ≡ []) }
+    ensures none { OnErr result (candidates.ubers.items ≡ []) }
     ensures cause { IfErr result (IsNothingFound rings.now.silent) }
 {
     let Candidates {
-        copies,
+        ubers,
         entries,
         giver,
     } = candidates;
-    let Some(first) = copies.first() else {
+    let Some(first) = ubers.first() else {
         return Err(nothing_found(rings.silent));
     };
     let uber = first.uber;
-    let out = devices_out(devices, rings, &copies, &uber);
-    let lacks_uber = devices_lacking(&copies, uber.reflow().to, out);
+    let out = devices_out(devices, rings, &ubers, &uber);
+    let lacks_uber = devices_lacking(&ubers, uber.reflow().to, out);
     Ok(Found {
         silent: rings.silent,
         device: first.device,

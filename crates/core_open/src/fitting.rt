@@ -1,5 +1,6 @@
 // Whether an index fits the uberblock that it belongs to.
-ghost use Rattle.std.specs.Prelude.{◌≡◌, ◌↔◌, ◌<◌, ◌≤◌, ◌^◌, All, AllPairs, map, IfOk, IfNone, IfSome, IsTrue, OnSome, SomeIff};
+ghost use Rattle.std.specs.Prelude.{◌≡◌, ◌↔◌, ◌<◌, ◌≤◌, ◌^◌, All, AllPairs, map, IfOk, IfNone, IfSome, IsTrue, OnSome};
+ghost use Rattle.std.specs.Prelude.{SomeIff};
 ghost use Rattle.block_record.specs.Page.{IsIndex, IsRightEntry};
 ghost use Rattle.uberblock_ring.specs.Valid.{IsRightUber};
 ghost use Rattle.core_state.specs.Index.{IsFitting};

@@ -1,12 +1,14 @@
 // An uberblock's index page, read from a device.
-ghost use Rattle.std.specs.Prelude.{◌≡◌, ◌↔◌, ◌+◌, ◌*◌, ◌<◌, ◌≤◌, ℕ, List, length, min, IfOk, IfNone, IfSome, IsErrOf, IsTrue, OnErr};
+ghost use Rattle.std.specs.Prelude.{◌≡◌, ◌↔◌, ◌+◌, ◌*◌, ◌<◌, ◌≤◌, ℕ, List, length, min, IfOk, IfNone, IfSome, IsErrOf};
+ghost use Rattle.std.specs.Prelude.{IsTrue, OnErr};
 ghost use Rattle.bank_trait.specs.Causes.{FaultCounted};
 ghost use Rattle.bank_trait.specs.Disk.{Unchanged};
 ghost use Rattle.block_record.specs.declared.entry.IndexEntry.{IndexEntry as EntryOf};
 ghost use Rattle.block_record.specs.Page.{index_page, page_sectors as sectors_of_page, IsIndex};
 ghost use Rattle.uberblock_ring.specs.Valid.{IsRightUber};
 ghost use Rattle.core_open.specs.declared.index_page.PageFault.TheVariants as fault;
-ghost use Rattle.core_open.specs.Pages.{page_piece, AreDeviceSectors, IsComparedPage, IsGivenPage, IsNotGiven, IsRecordedPage};
+ghost use Rattle.core_open.specs.Pages.{page_piece, AreDeviceSectors, IsComparedPage, IsGivenPage, IsNotGiven};
+ghost use Rattle.core_open.specs.Pages.{IsRecordedPage};
 
 use bank_trait::{Bank, Failed};
 use block_record::{IndexEntry, IndexRefused, index_sector, page_sectors, read_index};

@@ -15,7 +15,8 @@ ghost use Rattle.core_open.specs.Failing.{HaveFailed};
 ghost use Rattle.core_open.specs.Finding.{FitsOpening};
 ghost use Rattle.core_open.specs.Holds.{HoldsImage, shape_of};
 ghost use Rattle.core_open.specs.Lacking.{IsFirstGiver};
-ghost use Rattle.core_open.specs.Opens.{EndsRenewal, HasBank, IsForMemory, IsOpenedWith, IsWithinBelow, LeavesBank, LeavesOthers, OpeningKeeps, RenewsChoice, WritesInOrder};
+ghost use Rattle.core_open.specs.Opens.{EndsRenewal, HasBank, IsForMemory, IsOpenedWith, IsWithinBelow, LeavesBank};
+ghost use Rattle.core_open.specs.Opens.{LeavesOthers, OpeningKeeps, RenewsChoice, WritesInOrder};
 ghost use Rattle.core_open.specs.OpensFound.{OpensFound};
 ghost use Rattle.core_open.specs.Regions.{IsOnBelow};
 
@@ -24,7 +25,7 @@ use crate::finding::{Found, find};
 use crate::page_lack::devices_without_page;
 use bank_trait::Bank;
 use block_record::IndexEntry;
-use core_commit::copy;
+use core_commit::spread;
 use std::alloc::Global;
 use uberblock_ring::{DeviceSet, MAX_GROUP, Uber};
 
@@ -58,14 +59,14 @@ fn renew<B: Bank>(
     ensures ends { EndsRenewal uber.now entries.now lack_page lack_uber
         (point_of out.old (B.disk bank.old)) (point_of out.new (B.disk bank.new)) result }
 {
-    if copy(bank, uber, entries, lack_page, lack_uber, out).is_err() {
+    if spread(bank, uber, entries, lack_page, lack_uber, out).is_err() {
         return Err(OpenWhy::TooManyFailed { out: *out });
     }
     let mut renewed = *uber;
     renewed.set_group(uber.group() + 2);
     renewed.set_out(*out);
     let every = DeviceSet::from_bits(u64::MAX);
-    if copy(bank, &renewed, entries, DeviceSet::empty(), every, out).is_err() {
+    if spread(bank, &renewed, entries, DeviceSet::empty(), every, out).is_err() {
         return Err(OpenWhy::TooManyFailed { out: *out });
     }
     Ok(renewed)
@@ -104,7 +105,7 @@ fn open_found<B: Bank>(bank: &mut B, found: Found) -> Result<Opened, OpenWhy>
     })
 }
 
-/// Opens the pool that the devices show: the greatest group that they give is copied to those that lack
+/// Opens the pool that the devices show: the greatest group that they give is brought to those that lack
 /// it, and a group that renews it is written, two above. Answers `Limit` where there is no such number,
 /// before it looks whether too many devices are out.
 pub fn open<B: Bank>(alloc: Global, bank: &mut B) -> Result<Opened, OpenWhy>
@@ -135,7 +136,7 @@ pub fn open<B: Bank>(alloc: Global, bank: &mut B) -> Result<Opened, OpenWhy>
         LeavesBank why (B.disk bank.old) (B.disk bank.new)) }
     ensures opens { IfErr result (IsForMemory (B.disk bank.old) (B.disk bank.new)) }
 
-    // Copies of the chosen group are written, and nothing else until the uberblock that renews it.
+    // The chosen group is written to devices that lack it, and nothing else until the uberblock that renews it.
     ensures writes { IfOk result (λ opened. WritesInOrder (B.disk bank.old) (B.disk bank.new)
         opened.silent opened.uber) }
 

@@ -4,17 +4,17 @@ ghost use Rattle.uberblock_ring.specs.Devices.{has_device};
 ghost use Rattle.core_open.specs.Sets.{IsBlankBy, IsNewDevice, IsOutBy, ListOut, ShowPool, StandOn};
 
 use crate::reading::Rings;
-use crate::uber_copy::UberCopy;
+use crate::ring_uber::RingUber;
 use reflow_mark::{Reflow, State};
 use uberblock_ring::{DeviceSet, Uber};
 
 /// The devices of the pool that are out. `devices` is how many the bank has.
-pub fn devices_out(devices: u32, rings: &Rings, candidates: &[UberCopy], uber: &Uber) -> DeviceSet
+pub fn devices_out(devices: u32, rings: &Rings, candidates: &[RingUber], uber: &Uber) -> DeviceSet
     requires narrow { uber.now.reflow.to ≤ 16 }
     ensures below { result < 2 ^ uber.now.reflow.to }
     ensures each { (device : ℕ) → has_device result device ≡ true
         ↔ ((device < uber.now.reflow.to) × IsOutBy devices rings.now.silent rings.now.taken
-        rings.now.copies.items candidates.now uber.now device) }
+        rings.now.ubers.items candidates.now uber.now device) }
 {
     let mut out = DeviceSet::empty();
     for device in 0..uber.reflow().to {
@@ -26,7 +26,7 @@ pub fn devices_out(devices: u32, rings: &Rings, candidates: &[UberCopy], uber: &
 }
 
 /// The devices in use on which no candidate stands.
-pub fn devices_lacking(candidates: &[UberCopy], to: u32, out: DeviceSet) -> DeviceSet
+pub fn devices_lacking(candidates: &[RingUber], to: u32, out: DeviceSet) -> DeviceSet
     requires narrow { to ≤ 16 }
     ensures { (device : ℕ) → has_device result device ≡ true
         ↔ ((device < to) × ((has_device out device ≡ false)
@@ -41,16 +41,16 @@ pub fn devices_lacking(candidates: &[UberCopy], to: u32, out: DeviceSet) -> Devi
     lacking
 }
 
-fn is_lacking(candidates: &[UberCopy], out: DeviceSet, device: u32) -> bool
+fn is_lacking(candidates: &[RingUber], out: DeviceSet, device: u32) -> bool
     ensures { IsTrue result ↔ ((has_device out device ≡ false)
         × (StandOn candidates.now device → ⊥)) }
 {
     !out.has(device) && !stand_on(candidates, device)
 }
 
-fn is_out(devices: u32, rings: &Rings, candidates: &[UberCopy], uber: &Uber, device: u32) -> bool
+fn is_out(devices: u32, rings: &Rings, candidates: &[RingUber], uber: &Uber, device: u32) -> bool
     ensures { IsTrue result ↔ IsOutBy devices rings.now.silent rings.now.taken
-        rings.now.copies.items candidates.now uber.now device }
+        rings.now.ubers.items candidates.now uber.now device }
 {
     list_out(candidates, device)
         || rings.silent.has(device)
@@ -62,9 +62,9 @@ fn is_out(devices: u32, rings: &Rings, candidates: &[UberCopy], uber: &Uber, dev
 /// not have it yet, but another pool's disk in its place isn't taken for it.
 fn is_blank(rings: &Rings, uber: &Uber, device: u32) -> bool
     ensures { IsTrue result
-        ↔ IsBlankBy rings.now.taken rings.now.copies.items uber.now device }
+        ↔ IsBlankBy rings.now.taken rings.now.ubers.items uber.now device }
 {
-    !show_pool(&rings.copies, uber.pool(), device)
+    !show_pool(&rings.ubers, uber.pool(), device)
         && (!is_new_device(&uber.reflow(), device) || rings.taken.has(device))
 }
 
@@ -75,22 +75,22 @@ fn is_new_device(reflow: &Reflow, device: u32) -> bool
     reflow.state == State::None && device == reflow.from
 }
 
-fn list_out(copies: &[UberCopy], device: u32) -> bool
-    ensures { IsTrue result ↔ ListOut copies.now device }
+fn list_out(ubers: &[RingUber], device: u32) -> bool
+    ensures { IsTrue result ↔ ListOut ubers.now device }
 {
-    copies.iter().any(|copy| copy.uber.out().has(device))
+    ubers.iter().any(|ring_uber| ring_uber.uber.out().has(device))
 }
 
-fn stand_on(copies: &[UberCopy], device: u32) -> bool
-    ensures { IsTrue result ↔ StandOn copies.now device }
+fn stand_on(ubers: &[RingUber], device: u32) -> bool
+    ensures { IsTrue result ↔ StandOn ubers.now device }
 {
-    copies.iter().any(|copy| copy.device == device)
+    ubers.iter().any(|ring_uber| ring_uber.device == device)
 }
 
-fn show_pool(copies: &[UberCopy], pool: u64, device: u32) -> bool
-    ensures { IsTrue result ↔ ShowPool copies.now pool device }
+fn show_pool(ubers: &[RingUber], pool: u64, device: u32) -> bool
+    ensures { IsTrue result ↔ ShowPool ubers.now pool device }
 {
-    copies
+    ubers
         .iter()
-        .any(|copy| copy.device == device && copy.uber.pool() == pool)
+        .any(|ring_uber| ring_uber.device == device && ring_uber.uber.pool() == pool)
 }

@@ -2,12 +2,12 @@
 ghost use Rattle.std.specs.Prelude.{◌≡◌, ◌<◌, [], IfNone, IfOk, IfSome, Contains};
 ghost use Rattle.bank_trait.specs.Disk.{Image};
 ghost use Rattle.core_state.specs.Shown.{Shape, read_devices};
-ghost use Rattle.core_open.specs.declared.uber_copy.UberCopy.{UberCopy as CopyOf};
-ghost use Rattle.core_open.specs.Copies.{AreByGroup, AreRight, AreShown};
+ghost use Rattle.core_open.specs.declared.ring_uber.RingUber.{RingUber as RingUberOf};
+ghost use Rattle.core_open.specs.RingUbers.{AreByGroup, AreRight, AreShown};
 ghost use Rattle.core_open.specs.Votes.{AreVotes, IsPoolChoice, IsVote, IsWinner, votes_for};
 
 use crate::reading::{READ_DEVICES, Rings};
-use crate::uber_copy::UberCopy;
+use crate::ring_uber::RingUber;
 use std::alloc::{AllocError, Global};
 use uberblock_ring::DeviceSet;
 
@@ -20,50 +20,50 @@ pub struct Vote {
 
 /// The pool that most devices name, among equals that of the lowest. Silent devices have no vote.
 pub fn choose_pool(alloc: Global, rings: &Rings) -> Result<Option<u64>, AllocError>
-    requires right { AreRight 16 rings.now.copies.items }
-    requires order { AreByGroup rings.now.copies.items }
+    requires right { AreRight 16 rings.now.ubers.items }
+    requires order { AreByGroup rings.now.ubers.items }
     ensures chosen { IfOk result (λ pool. (shape : Shape) (image : Image)
-        → AreShown shape rings.now.silent image (read_devices shape) rings.now.copies.items
+        → AreShown shape rings.now.silent image (read_devices shape) rings.now.ubers.items
         → IsPoolChoice shape rings.now.silent image pool) }
 {
-    let votes = cast_votes(alloc, &rings.copies, rings.silent)?;
+    let votes = cast_votes(alloc, &rings.ubers, rings.silent)?;
     Ok(winner(&votes))
 }
 
 fn cast_votes(
     alloc: Global,
-    copies: &[UberCopy],
+    ubers: &[RingUber],
     silent: DeviceSet,
 ) -> Result<Vec<Vote>, AllocError>
-    requires right { AreRight 16 copies.now }
-    requires order { AreByGroup copies.now }
-    ensures { IfOk result (λ votes. AreVotes copies.now silent votes.items) }
+    requires right { AreRight 16 ubers.now }
+    requires order { AreByGroup ubers.now }
+    ensures { IfOk result (λ votes. AreVotes ubers.now silent votes.items) }
 {
     let mut votes = Vec::new(alloc);
     for device in 0..READ_DEVICES {
         if silent.has(device) {
             continue;
         }
-        if let Some(vote) = vote_of(copies, device) {
+        if let Some(vote) = vote_of(ubers, device) {
             votes.push(vote)?;
         }
     }
     Ok(votes)
 }
 
-/// The vote of a device, if it has any copy. Its first one has its greatest group.
-fn vote_of(copies: &[UberCopy], device: u32) -> Option<Vote>
-    requires order { AreByGroup copies.now }
+/// The vote of a device, if it has any uberblock. Its first one has its greatest group.
+fn vote_of(ubers: &[RingUber], device: u32) -> Option<Vote>
+    requires order { AreByGroup ubers.now }
     ensures device { IfSome result (λ vote. vote.device ≡ device) }
-    ensures vote { IfSome result (IsVote copies.now) }
-    ensures none { IfNone result ((copy : CopyOf) → Contains copies.now copy
-        → copy.device ≡ device → ⊥) }
+    ensures vote { IfSome result (IsVote ubers.now) }
+    ensures none { IfNone result ((ring_uber : RingUberOf) → Contains ubers.now ring_uber
+        → ring_uber.device ≡ device → ⊥) }
 {
-    for copy in copies {
-        if copy.device == device {
+    for ring_uber in ubers {
+        if ring_uber.device == device {
             return Some(Vote {
                 device,
-                pool: copy.uber.pool(),
+                pool: ring_uber.uber.pool(),
             });
         }
     }

@@ -1,5 +1,6 @@
 -- From what each image keeps to what is certain on the devices.
-use Rattle.std.proofs.Common.{◌≡◌, inl, inr, ⊎_elim, ℕ, zero, suc, ◌+◌, ◌-◌, ◌<◌, ◌≤◌, List, [], ◌∷◌, ◌++◌, length, false, Option, Some, None, refl, sym, ◌∙◌, ap, subst, arith, length-append}
+use Rattle.std.proofs.Common.{◌≡◌, inl, inr, ⊎_elim, ℕ, zero, suc, ◌+◌, ◌-◌, ◌<◌, ◌≤◌, List, [], ◌∷◌, ◌++◌, length}
+use Rattle.std.proofs.Common.{false, Option, Some, None, refl, sym, ◌∙◌, ap, subst, arith, length-append}
 use Rattle.std.specs.Prelude.{Contains, slice_get}
 use Rattle.std.proofs.lemmas.Bool.{cases_eq}
 use Rattle.sha2.specs.Sha256.{sha256}
@@ -77,7 +78,7 @@ might_slot shape disk image d x value might may could = record {
         (λ same_x.
         let at : patched image d x value d x ≡ encoded uber d =
         subst (λ k. patched image d x value k x ≡ encoded uber k) same_d
-        (subst (λ k. patched image d x value e k ≡ encoded uber e) same_x shows.valid.copy) in
+        (subst (λ k. patched image d x value e k ≡ encoded uber e) same_x shows.valid.bytes_are) in
         subst (λ k. Contains (able disk k (slot_of uber.group)) (encoded uber k)) (sym same_d)
         (subst (λ k. Contains (able disk d k) (encoded uber d)) (sym same_x)
         (could uber same_x (sym (patched_here image d x value) ∙ at))))
@@ -92,7 +93,7 @@ might_slot shape disk image d x value might may could = record {
           valid = record {
             right = shows.valid.right;
             slot_is = shows.valid.slot_is;
-            copy = sym (patched-other image d x value e (slot_of uber.group) other) ∙ shows.valid.copy;
+            bytes_are = sym (patched-other image d x value e (slot_of uber.group) other) ∙ shows.valid.bytes_are;
           };
         })
 
@@ -235,7 +236,7 @@ module _ (setting : Setting) (first : Kept) (later : List Kept) (disk : Disk)
                 (contains_head first later) (omega arith) shows shown.2.pool_is shown.1;
             shown = is ∙ ap (λ (k : List ℕ). Some k)
                 (sym (here.fits.at d (slot_of first.uber.group) b is)
-                ∙ subst (λ n. present disk d (slot_of n) ≡ encoded shown.0 d) shown.1 shows.valid.copy);
+                ∙ subst (λ n. present disk d (slot_of n) ≡ encoded shown.0 d) shown.1 shows.valid.bytes_are);
           }
       by None is =
           let slot = slot_of first.uber.group in
@@ -243,7 +244,7 @@ module _ (setting : Setting) (first : Kept) (later : List Kept) (disk : Disk)
           (λ b known. absurd (no_both (certain disk d slot) b is known))
           (λ uber same_x none. absurd (encoded_some uber d (sym none))) in
           let shown = (keeps (patched (present disk) d slot []) might).there.each d below works in
-          absurd (encoded_some shown.0 d (sym shown.2.shows.valid.copy
+          absurd (encoded_some shown.0 d (sym shown.2.shows.valid.bytes_are
           ∙ subst (λ n. patched (present disk) d slot [] d (slot_of n) ≡ []) (sym shown.1)
           (patched_here (present disk) d slot [])))
 
@@ -313,7 +314,7 @@ module _ (setting : Setting) (first : Kept) (later : List Kept) (disk : Disk)
     valid = record {
       right = is.right;
       slot_is = refl;
-      copy = patched_here (present disk) d (slot_of uber.group) (encoded uber d);
+      bytes_are = patched_here (present disk) d (slot_of uber.group) (encoded uber d);
     };
   }
 

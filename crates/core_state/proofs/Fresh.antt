@@ -1,5 +1,6 @@
 -- Each image of a new pool keeps its first group.
-use Rattle.std.proofs.Common.{◌≡◌, ◌≢◌, ℕ, zero, suc, ◌+◌, ◌-◌, ◌/◌, ◌%◌, ◌^◌, ◌<◌, ◌≤◌, Bool, true, false, List, [], ◌∷◌, Some, None, refl, sym, ◌∙◌, ap, subst, arith, inl, ⊎_elim, mod-lt}
+use Rattle.std.proofs.Common.{◌≡◌, ◌≢◌, ℕ, zero, suc, ◌+◌, ◌-◌, ◌/◌, ◌%◌, ◌^◌, ◌<◌, ◌≤◌, Bool, true, false, List, []}
+use Rattle.std.proofs.Common.{◌∷◌, Some, None, refl, sym, ◌∙◌, ap, subst, arith, inl, ⊎_elim, mod-lt}
 use Rattle.std.specs.Prelude.{min, slice_index, ◌==◌, if◌then◌else◌}
 use Rattle.std.proofs.Math.Nat.{zero-div, one-le-pow}
 use Rattle.std.proofs.lemmas.Bool.{cases_lt, cases_eq}
@@ -17,7 +18,8 @@ use Rattle.core_state.specs.Index.{IsFitting}
 use Rattle.core_state.specs.Shown.{Shape, Shows, Gives, page_on}
 use Rattle.core_state.specs.Choosing.{Names}
 use Rattle.core_state.specs.Whole.{IsWhole}
-use Rattle.core_state.specs.Keeps.{Setting, Keeps, IsKept, ShowsOnly, StandsThere, ShowsCandidate, IsNotOutvoted, HasDevices, Kept}
+use Rattle.core_state.specs.Keeps.{Setting, Keeps, IsKept, ShowsOnly, StandsThere, ShowsCandidate, IsNotOutvoted}
+use Rattle.core_state.specs.Keeps.{HasDevices, Kept}
 use Rattle.core_state.specs.Create.{IsNew, new_ring, rows_for, first_kept}
 use Rattle.core_state.proofs.Widths.{only_width}
 
@@ -119,7 +121,7 @@ module _ (setting : Setting) (parity width : ℕ) (image : Image) (sized : IsSiz
   shows_0 device below = record {
     device_in = omega (arith, below, sized.devices, sized.width_in);
     slot_in = omega (arith, sized.sectors);
-    valid = record { right = right_0; slot_is = refl; copy = new.ring device 1 below (omega arith) };
+    valid = record { right = right_0; slot_is = refl; bytes_are = new.ring device 1 below (omega arith) };
   }
 
   -- Nothing else is shown.
@@ -137,10 +139,10 @@ module _ (setting : Setting) (parity width : ℕ) (image : Image) (sized : IsSiz
           (λ first. let ring : image device (slot_of uber.group) ≡ encoded uber_0 device =
           new.ring device (slot_of uber.group) below slot_low ∙ ap (λ (n : ℕ). new_ring uber_0 device n) first in
           (encoded_tells uber uber_0 device device shows.valid.right right_0 (omega (arith, below, sized.width_in)) (omega (arith, below, sized.width_in))
-          (sym shows.valid.copy ∙ ring)).0)
+          (sym shows.valid.bytes_are ∙ ring)).0)
           (λ other. let ring : image device (slot_of uber.group) ≡ zero_sector =
           new.ring device (slot_of uber.group) below slot_low ∙ elsewhere (slot_of uber.group) other in
-          absurd (zeros_are_none uber device (sym ring ∙ shows.valid.copy)))
+          absurd (zeros_are_none uber device (sym ring ∙ shows.valid.bytes_are)))
           (cases_eq (slot_of uber.group) 1)
 
   -- The empty index is all that an image gives.

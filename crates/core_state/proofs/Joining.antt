@@ -62,7 +62,7 @@ module _ (setting : Setting) (base reach : ℕ) (first : Kept) (later : List Kep
     votes = votes;
   }
 
--- The pool may reach to one more device, whose ring is settled and shows no uberblock.
+-- Law: A pool may reach to one device more, whose ring is settled and shows no uberblock.
 pub reach_more : (setting : Setting) (first : Kept) (later : List Kept) (disk : Disk)
     → IsRingSettled disk setting.reach → ReadsNoUber disk setting.reach → setting.reach < read_devices setting.shape
     → Knows setting first later disk
@@ -92,7 +92,7 @@ reach_more setting first later disk settled blank there knows =
     record { outside = (let out = names.outside in omega (arith, out)); names = names.names }))
     knows
 
--- The pool has as many devices at least as each group of the row.
+-- Law: Once each group of the row has a device, the pool has it at least.
 pub base_more : (setting : Setting) (first : Kept) (later : List Kept) (disk : Disk) (base : ℕ)
     → setting.base ≤ base → All (λ (kept : Kept). base ≤ kept.uber.reflow.to) (first ∷ later)
     → Knows setting first later disk

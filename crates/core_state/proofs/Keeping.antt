@@ -1,5 +1,6 @@
 -- From what is certain on the devices to what each image keeps.
-use Rattle.std.proofs.Common.{◌≡◌, ℕ, suc, ◌+◌, ◌<◌, ◌≤◌, List, [], ◌∷◌, ◌++◌, length, Some, false, refl, sym, ◌∙◌, ap, subst, arith}
+use Rattle.std.proofs.Common.{◌≡◌, ℕ, suc, ◌+◌, ◌<◌, ◌≤◌, List, [], ◌∷◌, ◌++◌, length, Some, false, refl, sym, ◌∙◌, ap}
+use Rattle.std.proofs.Common.{subst, arith}
 use Rattle.std.specs.Prelude.{slice_get}
 use Rattle.sha2.specs.Sha256.{sha256}
 use Rattle.bank_trait.specs.Disk.{Image, Disk, Fits}
@@ -144,7 +145,7 @@ module _ (setting : Setting) (first : Kept) (later : List Kept) (disk : Disk)
             valid = record {
               right = slot.right;
               slot_is = refl;
-              copy = might.fits.at device (slot_of slot.uber.group) (encoded slot.uber device)
+              bytes_are = might.fits.at device (slot_of slot.uber.group) (encoded slot.uber device)
                   (subst (λ n. certain disk device (slot_of n) ≡ Some (encoded slot.uber device))
                   (sym group) slot.shown);
             };

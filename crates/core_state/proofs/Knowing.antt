@@ -1,5 +1,6 @@
 -- What a device call leaves of what is certain of the groups.
-use Rattle.std.proofs.Common.{◌≡◌, ◌≢◌, ◌⊎◌, inl, inr, ⊎_elim, ℕ, ◌+◌, ◌<◌, ◌≤◌, List, [], ◌∷◌, Bool, true, false, Option, Some, None, Result, refl, sym, ◌∙◌, ap, subst, arith}
+use Rattle.std.proofs.Common.{◌≡◌, ◌≢◌, ◌⊎◌, inl, inr, ⊎_elim, ℕ, ◌+◌, ◌<◌, ◌≤◌, List, [], ◌∷◌, Bool, true, false}
+use Rattle.std.proofs.Common.{Option, Some, None, Result, refl, sym, ◌∙◌, ap, subst, arith}
 use Rattle.std.specs.Prelude.{Contains, slice_index, unwrap_or, if◌then◌else◌, nat_lt}
 use Rattle.std.proofs.lemmas.Bool.{cases_lt, cases_eq}
 use Rattle.std.proofs.lemmas.Bool.Decides.{nat_tests}
@@ -39,7 +40,7 @@ pub present_might : (shape : Shape) (disk : Disk) → Lawful disk
 present_might shape disk lawful = record {
   fits = record { at = λ d x b is. ap (λ o. unwrap_or o []) (lawful.stays_read d x b is) };
   written = record {
-    ring = λ d uber shows. by d uber (disk.reads d (slot_of uber.group)) refl shows.valid.copy;
+    ring = λ d uber shows. by d uber (disk.reads d (slot_of uber.group)) refl shows.valid.bytes_are;
   };
 }
   where
@@ -62,7 +63,7 @@ shows_same shape image other device uber same shows = record {
   valid = record {
     right = shows.valid.right;
     slot_is = shows.valid.slot_is;
-    copy = sym (same (slot_of uber.group) (slot_low uber.group)) ∙ shows.valid.copy;
+    bytes_are = sym (same (slot_of uber.group) (slot_low uber.group)) ∙ shows.valid.bytes_are;
   };
 }
 
@@ -258,7 +259,7 @@ knows_frame here lost setting first later old new lawful frames spare knows = re
 
 -- Writing one more copy of a group's uberblock into a slot of the pool. What the uberblock asks for is
 -- certain; the first group's own slot is not touched where it is relied on.
-pub knows_copy : (setting : Setting) (first : Kept) (later : List Kept) (old new : Disk)
+pub knows_one_more : (setting : Setting) (first : Kept) (later : List Kept) (old new : Disk)
     (device : ℕ) (uber : Uber) (result : Result (Unit {0}) Failed) → Lawful old
     → Wrote old new device (slot_of uber.group) (encoded uber device) result
     → device < setting.reach → device < 16 → IsRightUber uber
@@ -267,7 +268,7 @@ pub knows_copy : (setting : Setting) (first : Kept) (later : List Kept) (old new
     → (slot_of uber.group ≢ slot_of first.uber.group) ⊎ (has_device setting.failed device ≡ true)
     → Knows setting first later old
     → Knows setting first later new
-knows_copy setting first later old new device uber result lawful wrote below few right pool_is
+knows_one_more setting first later old new device uber result lawful wrote below few right pool_is
     known spared knows = record {
       row = knows.row;
       sound = knows.sound;

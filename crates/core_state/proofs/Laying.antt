@@ -1,5 +1,6 @@
 -- The first half of a commit: the index page is written, then each device synced.
-use Rattle.std.proofs.Common.{◌≡◌, ◌≢◌, ◌⊎◌, inl, inr, ⊎_elim, ℕ, ◌+◌, ◌*◌, ◌<◌, ◌≤◌, List, ◌∷◌, length, true, false, Some, Result, sym, ◌∙◌, ap, subst, arith}
+use Rattle.std.proofs.Common.{◌≡◌, ◌≢◌, ◌⊎◌, inl, inr, ⊎_elim, ℕ, ◌+◌, ◌*◌, ◌<◌, ◌≤◌, List, ◌∷◌, length, true, false}
+use Rattle.std.proofs.Common.{Some, Result, sym, ◌∙◌, ap, subst, arith}
 use Rattle.std.specs.Prelude.{Contains}
 use Rattle.std.proofs.lemmas.Bool.{cases_eq}
 use Rattle.bank_trait.specs.declared.Failed.{Failed}
@@ -17,7 +18,8 @@ use Rattle.core_state.specs.Committing.{Among, Point, Called, page_part, HasBase
 use Rattle.core_state.proofs.Places.{asks_sector, data_is_no_page, page_place}
 use Rattle.core_state.proofs.Frames.{IsPlace, Nowhere}
 use Rattle.core_state.proofs.Knowing.{knows_frame, page_frame, cells_frame, cells_read}
-use Rattle.core_state.proofs.Calls.{true_false, Moves, write_moves, sync_moves, written_read, synced_certain, page_known}
+use Rattle.core_state.proofs.Calls.{true_false, Moves, write_moves, sync_moves, written_read, synced_certain}
+use Rattle.core_state.proofs.Calls.{page_known}
 
 -- A group's page is in one of the two areas, and not too long.
 pub record IsPaged (kept : Kept) : Type 0 where

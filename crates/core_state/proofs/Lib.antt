@@ -21,3 +21,6 @@ pub mod Finding
 pub mod Created
 pub mod Joining
 pub mod Resting
+pub mod Outs
+pub mod SpotReads
+pub mod Below

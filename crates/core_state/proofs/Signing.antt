@@ -1,6 +1,7 @@
 -- The second half of a commit, and the copies of an opening: an uberblock that images may show is
 -- written, and each device synced.
-use Rattle.std.proofs.Common.{◌≡◌, ◌≢◌, ◌⊎◌, inl, inr, ⊎_elim, ℕ, ◌+◌, ◌<◌, List, ◌∷◌, true, false, Some, Result, sym, ◌∙◌, ap, subst, arith, ◌≤◌}
+use Rattle.std.proofs.Common.{◌≡◌, ◌≢◌, ◌⊎◌, inl, inr, ⊎_elim, ℕ, ◌+◌, ◌<◌, List, ◌∷◌, true, false, Some, Result, sym}
+use Rattle.std.proofs.Common.{◌∙◌, ap, subst, arith, ◌≤◌}
 use Rattle.std.proofs.lemmas.Bool.{cases_eq}
 use Rattle.bank_trait.specs.declared.Failed.{Failed}
 use Rattle.bank_trait.specs.Disk.{Wrote, Synced}
@@ -17,8 +18,9 @@ use Rattle.core_state.specs.Free.{IsSpare}
 use Rattle.core_state.specs.Committing.{Among, Point, Called, page_part, IsSealed, Signed}
 use Rattle.core_state.proofs.Places.{asks_sector, data_is_no_slot, page_place, slot_low}
 use Rattle.core_state.proofs.Frames.{IsPlace, Nowhere}
-use Rattle.core_state.proofs.Knowing.{knows_frame, knows_copy, certain_frame, page_frame}
-use Rattle.core_state.proofs.Calls.{true_false, Moves, write_moves, sync_moves, written_read, synced_certain, page_known}
+use Rattle.core_state.proofs.Knowing.{knows_frame, knows_one_more, certain_frame, page_frame}
+use Rattle.core_state.proofs.Calls.{true_false, Moves, write_moves, sync_moves, written_read, synced_certain}
+use Rattle.core_state.proofs.Calls.{page_known}
 use Rattle.core_state.proofs.Laying.{IsPaged, IsPageSpared, page_is_spare}
 
 -- The uberblock is the group's, and may be written over what stands in its slot on a device.
@@ -202,7 +204,7 @@ module _ (setting : Setting) (first : Kept) (later : List Kept) (next : Kept) (u
         (λ d below_d in_use it. absurd (cc))
         (signed_frame (IsPlace device (slot_of next.uber.group)) (UberWrite device ∷ rest) before after
         moves
-        (knows_copy setting first later before.disk after.disk device uber result s.lawful
+        (knows_one_more setting first later before.disk after.disk device uber result s.lawful
         (subst (λ k. Wrote before.disk after.disk device k (encoded uber device) result) (sym slot) wrote)
         (let reach = signer.reach in omega (arith, below, reach)) (omega (arith, widths, to, below))
         signer.right signer.pool_is s.known

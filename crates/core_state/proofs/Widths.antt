@@ -83,6 +83,7 @@ module _ (first : Kept) (later : List Kept)
   near_later one other has also is (inr renews) = near_renewed one other renews is
   near_later one other has also (inr renews) is = near_back (near_renewed other one renews is)
 
+  -- Law: No two groups that an image keeps differ by more than one device.
   pub near_widths : (one other : Kept) → Contains (first ∷ later) one → Contains (first ∷ later) other
       → AreNearWidths one other
   near_widths one other has also = ⊎_elim

@@ -1,5 +1,6 @@
 -- What is certain on the devices, and so in each image that a crash may leave.
-use Rattle.std.specs.Prelude.{◌≡◌, ℕ, ◌+◌, ◌<◌, ◌≤◌, List, [], ◌∷◌, ◌++◌, length, Some, false, Contains, slice_get, All, AllPairs}
+use Rattle.std.specs.Prelude.{◌≡◌, ℕ, ◌+◌, ◌<◌, ◌≤◌, List, [], ◌∷◌, ◌++◌, length, Some, false, Contains, slice_get, All}
+use Rattle.std.specs.Prelude.{AllPairs}
 use Rattle.sha2.specs.Sha256.{sha256}
 use Rattle.bank_trait.specs.Disk.{Image, Known, Disk}
 use Rattle.shadow_write.specs.Required.{IsRequiredPlace, front_after_stop}

@@ -1,5 +1,6 @@
 -- A commit under way: what stands on the devices in use, and what is still to be called.
-use Rattle.std.specs.Prelude.{◌≡◌, ◌⊎◌, ℕ, ◌+◌, ◌*◌, ◌<◌, List, [], ◌∷◌, Some, IsSome, Bool, false, not, ◌&&◌, ◌||◌, ◌==◌, take, drop, is_ok, Result}
+use Rattle.std.specs.Prelude.{◌≡◌, ◌⊎◌, ℕ, ◌+◌, ◌*◌, ◌<◌, List, [], ◌∷◌, Some, IsSome, Bool, false, not, ◌&&◌, ◌||◌}
+use Rattle.std.specs.Prelude.{◌==◌, take, drop, is_ok, Result}
 use Rattle.bank_trait.specs.declared.Failed.{Failed}
 use Rattle.bank_trait.specs.Disk.{Known, Disk, Lawful}
 use Rattle.block_record.specs.Page.{page_sectors, index_page}

@@ -1,5 +1,6 @@
 -- An image keeps these groups and no others of the pool.
-use Rattle.std.specs.Prelude.{◌≡◌, ◌≢◌, ◌⊎◌, ℕ, zero, suc, ◌+◌, ◌<◌, ◌≤◌, List, ◌∷◌, length, All, AllPairs, false, Contains, nat_eq, if◌then◌else◌}
+use Rattle.std.specs.Prelude.{◌≡◌, ◌≢◌, ◌⊎◌, ℕ, zero, suc, ◌+◌, ◌<◌, ◌≤◌, List, ◌∷◌, length, All, AllPairs, false}
+use Rattle.std.specs.Prelude.{Contains, nat_eq, if◌then◌else◌}
 use Rattle.std.specs.List.{IsDistinct}
 use Rattle.bank_trait.specs.Disk.{Image}
 use Rattle.block_record.specs.declared.entry.IndexEntry.{IndexEntry}

@@ -16,3 +16,6 @@ pub mod World
 pub mod JobTurns
 pub mod Create
 pub mod Opening
+pub mod Outs
+pub mod SpotReads
+pub mod PoolBank

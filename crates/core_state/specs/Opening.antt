@@ -4,7 +4,7 @@ use Rattle.bank_trait.specs.Disk.{Image}
 use Rattle.block_record.specs.declared.entry.IndexEntry.{IndexEntry}
 use Rattle.uberblock_ring.specs.Devices.{has_device}
 use Rattle.uberblock_ring.specs.Uberblock.{Uber}
-pub use Rattle.commit_job.specs.Stages.{copies_of}
+pub use Rattle.commit_job.specs.Stages.{spread_of}
 use Rattle.core_state.specs.Shown.{Shape, IsCandidate}
 use Rattle.core_state.specs.Choosing.{IsOutAtOpening}
 use Rattle.core_state.specs.Keeps.{Kept}

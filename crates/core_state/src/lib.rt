@@ -13,8 +13,10 @@ mod answer;
 mod bytes;
 mod item;
 mod journal;
+mod spot;
 
 pub use answer::{Answer, Kind};
 pub use bytes::{Bytes, Ids};
 pub use item::{Entry, Group, Item};
 pub use journal::Journal;
+pub use spot::Spot;

@@ -13,19 +13,19 @@ use Rattle.core_state.specs.declared.answer.Answer.{Answer}
 use Rattle.core_state.specs.declared.answer.Answer.TheVariants as answer
 use Rattle.core_state.specs.Committing.{point_of}
 use Rattle.core_state.specs.Keeps.{Kept, Setting}
-use Rattle.core_client.specs.Outs.{OnlyFailedGoOut}
+use Rattle.core_state.specs.Outs.{OnlyFailedGoOut}
 use Rattle.core_commit.specs.declared.commit_run.Stage.TheVariants.{Lays}
 use Rattle.core_commit.specs.CommitTurns.{CommitRun}
 use Rattle.core_commit.specs.Spared.{IsOnInUse}
 use Rattle.core_commit.specs.Widening.{IsWidenable}
-use Rattle.join_commit.specs.declared.guest.Guest.TheVariants.{Laid}
-use Rattle.join_commit.specs.declared.join_run.JoinStep.{JoinStep}
-use Rattle.join_commit.specs.declared.join_run.JoinStep.TheVariants as step
-use Rattle.join_commit.specs.declared.join_run.WhyDropped.{WhyDropped}
-use Rattle.join_commit.specs.declared.join_run.WhyDropped.TheVariants as why
-use Rattle.join_commit.specs.JoinRun.{JoinRun}
-use Rattle.join_commit.specs.JoinTurns.{JoinSteps}
-use Rattle.join_commit.specs.Joining.{GuestSoFar}
+use Rattle.core_commit.specs.declared.guest.Guest.TheVariants.{Laid}
+use Rattle.core_commit.specs.declared.join_run.JoinStep.{JoinStep}
+use Rattle.core_commit.specs.declared.join_run.JoinStep.TheVariants as step
+use Rattle.core_commit.specs.declared.join_run.WhyDropped.{WhyDropped}
+use Rattle.core_commit.specs.declared.join_run.WhyDropped.TheVariants as why
+use Rattle.core_commit.specs.JoinRun.{JoinRun}
+use Rattle.core_commit.specs.JoinTurns.{JoinSteps}
+use Rattle.core_commit.specs.Joining.{GuestSoFar}
 use Rattle.core_turns.specs.declared.attaching.AttachRun.{AttachRun}
 use Rattle.core_turns.specs.declared.attaching.AttachRun.TheVariants.{Reads, Checked, Joins, Signs}
 use Rattle.core_turns.specs.declared.turn.Turn.{Turn}

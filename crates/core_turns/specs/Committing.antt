@@ -17,9 +17,9 @@ use Rattle.core_commit.specs.declared.commit_run.Stage.TheVariants.{Lays}
 use Rattle.core_commit.specs.declared.commit_run.CommitStep.TheVariants.{Called}
 use Rattle.core_commit.specs.CommitTurns.{CommitRun, HasEnded, CommitSteps}
 use Rattle.uberblock_ring.specs.Uberblock.{Uber, max_group}
-use Rattle.open_pool.specs.Answered.{IsNextGroup, answered_by}
-use Rattle.open_pool.specs.NextGroup.{uber_for}
-use Rattle.open_pool.specs.Pool.{Pool}
+use Rattle.core_open.specs.Answered.{IsNextGroup, answered_by}
+use Rattle.core_open.specs.NextGroup.{uber_for}
+use Rattle.core_open.specs.Pool.{Pool}
 use Rattle.core_turns.specs.declared.turn.Turn.{Turn}
 use Rattle.core_turns.specs.declared.turn.Turn.TheVariants.{More, Busy, Done}
 use Rattle.core_turns.specs.Core.{Core, CoreState, alone_below}

@@ -13,7 +13,7 @@ use Rattle.core_state.specs.declared.answer.Answer.{Answer}
 use Rattle.core_state.specs.declared.answer.Answer.TheVariants as answer
 use Rattle.core_state.specs.Committing.{Point, point_of}
 use Rattle.core_state.specs.Whole.{Cell, RightAt}
-use Rattle.spare_write.specs.Around.{IsClose}
+use Rattle.core_copy.specs.Around.{IsClose}
 use Rattle.core_copy.specs.JobRun.{HoldsRead, JobRun, JobSteps, begun_run}
 use Rattle.core_copy.specs.Holding.{GoesOnIn, HoldsJob}
 use Rattle.core_turns.specs.declared.copying.CopyRun.{CopyRun}

@@ -4,7 +4,7 @@ use Rattle.bank_trait.specs.Disk.{Disk}
 use Rattle.range_locks.specs.declared.hold.Hold.{Hold}
 use Rattle.range_locks.specs.Order.{exclusive_count, is_exclusive}
 use Rattle.core_blocks.specs.Blocks.{AreInStep}
-use Rattle.open_pool.specs.Pool.{Pool, State, IsPool, HasBank}
+use Rattle.core_open.specs.Pool.{Pool, State, IsPool, HasBank}
 use Rattle.uberblock_ring.specs.Uberblock.{Uber, max_group}
 
 -- the pool, the holds of the calls under way, the group that was begun last, who makes it where it isn't answered, who

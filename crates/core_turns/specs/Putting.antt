@@ -1,5 +1,6 @@
 -- Puts, turn by turn.
-use Rattle.std.specs.Prelude.{◌≡◌, ℕ, ◌+◌, ◌<◌, ◌≤◌, List, ◌∷◌, [], ◌++◌, length, slice_get, Option, Some, None, Contains, ⊤}
+use Rattle.std.specs.Prelude.{◌≡◌, ℕ, ◌+◌, ◌<◌, ◌≤◌, List, ◌∷◌, [], ◌++◌, length, slice_get, Option, Some, None}
+use Rattle.std.specs.Prelude.{Contains, ⊤}
 use Rattle.sha2.specs.Sha256.{sha256}
 use Rattle.range_locks.specs.declared.hold.Hold.{Hold}
 use Rattle.range_locks.specs.declared.hold.HoldKind.TheVariants.{Shared}
@@ -23,7 +24,7 @@ use Rattle.core_blocks.specs.Kept.{NoneFree, SparesAll}
 use Rattle.core_blocks.specs.Puts.{BeginsPut, HoldsBack, IsRangeFor, sectors_taken}
 use Rattle.core_blocks.specs.Usage.{AddsAtMost}
 use Rattle.core_state.specs.Committing.{point_of}
-use Rattle.reflow_band.specs.Band.{AsksSame, IsFrontOf}
+use Rattle.shadow_write.specs.Band.{AsksSame, IsFrontOf}
 use Rattle.core_client.specs.Pool.{IsInPool}
 use Rattle.core_client.specs.Writing.{IsPassedOrMade, IsPlanOf}
 use Rattle.core_client.specs.BlockTurns.{IsWrittenSoFar}

@@ -3,7 +3,7 @@ use Rattle.std.specs.Prelude.{◌≡◌, ◌⊎◌, ℕ, ◌<◌, Option, Some, 
 use Rattle.reflow_mark.specs.Reflow.{Expands}
 use Rattle.reflow_copier.specs.Jobs.{next_job_of}
 use Rattle.block_table.specs.Table.{IsTable}
-use Rattle.job_copy.specs.Progress.{call_count}
+use Rattle.core_copy.specs.Progress.{call_count}
 use Rattle.core_state.specs.declared.answer.Answer.{Answer}
 use Rattle.core_state.specs.declared.answer.Answer.TheVariants as answer
 use Rattle.core_turns.specs.declared.rounds.CopyRound.{CopyRound}

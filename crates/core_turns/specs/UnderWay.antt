@@ -16,7 +16,7 @@ use Rattle.core_blocks.specs.declared.range.PutRange.{PutRange}
 use Rattle.core_blocks.specs.Blocks.{AreUnderWay, layout_run, put_run}
 use Rattle.core_blocks.specs.Kept.{NoneFree, SparesAll}
 use Rattle.core_blocks.specs.Runs.{AreClear}
-use Rattle.core_client.specs.Outs.{OnlyFailedGoOut}
+use Rattle.core_state.specs.Outs.{OnlyFailedGoOut}
 use Rattle.core_client.specs.Pool.{IsInPool}
 use Rattle.core_state.specs.Committing.{point_of}
 use Rattle.core_commit.specs.declared.commit_run.Stage.{Stage}
@@ -24,7 +24,7 @@ use Rattle.core_commit.specs.declared.commit_run.Stage.TheVariants.{Lays, Signs}
 use Rattle.core_commit.specs.CommitTurns.{CommitRun, IsCommitting}
 use Rattle.core_commit.specs.Spared.{IsOnInUse}
 use Rattle.core_open.specs.Holds.{shape_of}
-use Rattle.open_pool.specs.Pool.{HoldsMap}
+use Rattle.core_open.specs.Pool.{HoldsMap}
 use Rattle.core_turns.specs.declared.copying.CopyRun.{CopyRun}
 use Rattle.core_turns.specs.declared.getting.GetRun.{GetRun}
 use Rattle.core_turns.specs.declared.putting.PutRun.{PutRun}

@@ -1,21 +1,22 @@
 // Attaches, turn by turn.
 ghost use Rattle.std.specs.Prelude.{◌≡◌, ◌≢◌, ◌+◌, ◌<◌, ◌≤◌, IfSome, None as NoWhy, Some};
 ghost use Rattle.bank_trait.specs.Disk.{Disk};
-ghost use Rattle.core_client.specs.Outs.{OnlyFailedGoOut};
+ghost use Rattle.core_state.specs.Outs.{OnlyFailedGoOut};
 ghost use Rattle.core_state.specs.Committing.{point_of};
-ghost use Rattle.core_turns.specs.declared.attaching.AttachRun.TheVariants.{Reads as ReadsOf, Checked as CheckedOf, Joins as JoinsOf, Signs as SignsOf};
+ghost use Rattle.core_turns.specs.declared.attaching.AttachRun.TheVariants.{Reads as ReadsOf, Checked as CheckedOf};
+ghost use Rattle.core_turns.specs.declared.attaching.AttachRun.TheVariants.{Joins as JoinsOf, Signs as SignsOf};
 ghost use Rattle.core_turns.specs.declared.turn.Turn.TheVariants.{Done};
 ghost use Rattle.core_turns.specs.Core.{IsCore, at_disk, HasBankOf};
 ghost use Rattle.core_turns.specs.Getting.{HasTooManyOut};
-ghost use Rattle.core_turns.specs.Attaching.{AttachGoesOn, BeginsAttach, HasNewDevice, IsAttachable, IsAttachRunOf, IsMoreAttach, IsNotAttachable, StepsAttach, attach_answer};
+ghost use Rattle.core_turns.specs.Attaching.{AttachGoesOn, BeginsAttach, HasNewDevice, IsAttachable, IsAttachRunOf};
+ghost use Rattle.core_turns.specs.Attaching.{IsMoreAttach, IsNotAttachable, StepsAttach, attach_answer};
 
 use crate::turn::too_many;
 use crate::{Core, Turn};
 use attach_ring::RingRead;
 use bank_trait::Bank;
-use core_commit::CommitRun;
+use core_commit::{CommitRun, JoinRun, JoinStep, WhyDropped};
 use core_state::Answer;
-use join_commit::{JoinRun, JoinStep, WhyDropped};
 use std::alloc::Global;
 use width_map::FIRST_DATA_SECTOR;
 

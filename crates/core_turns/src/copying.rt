@@ -1,8 +1,8 @@
 // Copy jobs, turn by turn.
 ghost use Rattle.std.specs.Prelude.{◌≡◌, ◌<◌, ◌↔◌, IsTrue, false};
-ghost use Rattle.core_client.specs.Outs.{OnlyFailedGoOut};
+ghost use Rattle.core_state.specs.Outs.{OnlyFailedGoOut};
 ghost use Rattle.core_state.specs.Committing.{point_of};
-ghost use Rattle.job_copy.specs.Progress.{call_count};
+ghost use Rattle.core_copy.specs.Progress.{call_count};
 ghost use Rattle.core_turns.specs.Core.{IsCore, at_disk, HasBankOf};
 ghost use Rattle.core_turns.specs.Copying.{BeginsJob, DropsJob, EndsJob, IsDue, IsGivenUpFor, IsJobOf, StepsJob};
 ghost use Rattle.core_turns.specs.UnderWay.{TurnGoesOn};
@@ -10,9 +10,8 @@ ghost use Rattle.core_turns.specs.UnderWay.{TurnGoesOn};
 use crate::Core;
 use crate::turn::too_many;
 use bank_trait::Bank;
-use core_copy::JobRun;
+use core_copy::{JobRun, due_job};
 use core_state::Answer;
-use job_copy::due_job;
 use range_locks::{Hold, LockRefused};
 use reflow_copier::Job;
 use std::alloc::Global;

@@ -6,7 +6,7 @@ ghost use Rattle.core_state.specs.Map.{Map};
 ghost use Rattle.core_blocks.specs.declared.range.PutRange.{PutRange};
 ghost use Rattle.core_blocks.specs.Blocks.{AreUnderWay};
 ghost use Rattle.core_blocks.specs.Kept.{NoneFree};
-ghost use Rattle.open_pool.specs.Pool.{HoldsMap};
+ghost use Rattle.core_open.specs.Pool.{HoldsMap};
 ghost use Rattle.core_turns.specs.Core.{at_disk, pool_at, HasBankOf};
 ghost use Rattle.core_turns.specs.declared.getting.GetRun.{GetRun};
 ghost use Rattle.core_turns.specs.Getting.{IsGetOf};

@@ -6,7 +6,7 @@
 //! the call is answered. A hold on its sectors keeps others away.
 //! Read `specs/Core.antt` and `specs/UnderWay.antt`, then `specs/Getting.antt`, `specs/Putting.antt`,
 //! `specs/Committing.antt` and `specs/Copying.antt`. Stands on `core_blocks`, `core_client`, `core_commit`, `core_copy`
-//! and `range_locks`, and on the definitions of `open_pool`.
+//! and `range_locks`, and on the definitions of `core_open`.
 #![tactic(auto)]
 
 mod attaching;

@@ -4,7 +4,7 @@ ghost use Rattle.uberblock_ring.specs.Devices.{count_of};
 ghost use Rattle.core_turns.specs.Core.{IsCore};
 
 use core_blocks::Blocks;
-use open_pool::Pool;
+use core_open::Pool;
 use range_locks::Locks;
 use reflow_mark::Reflow;
 use std::alloc::Global;

@@ -1,7 +1,7 @@
 // Copies, turn by turn: rounds of jobs and commits.
 ghost use Rattle.std.specs.Prelude.{◌≡◌};
 ghost use Rattle.bank_trait.specs.Disk.{Disk};
-ghost use Rattle.core_client.specs.Outs.{OnlyFailedGoOut};
+ghost use Rattle.core_state.specs.Outs.{OnlyFailedGoOut};
 ghost use Rattle.core_state.specs.Committing.{point_of};
 ghost use Rattle.core_turns.specs.declared.rounds.CopyRound.TheVariants.{Copies as CopiesOf, Commits as CommitsOf};
 ghost use Rattle.core_turns.specs.Core.{IsCore, at_disk, HasBankOf};

@@ -1,5 +1,6 @@
 -- What a call does to a file in memory.
-use Rattle.std.proofs.Common.{◌≡◌, ◌≢◌, ◌⊎◌, inl, inr, ℕ, zero, suc, get_or, ◌<◌, ◌≤◌, List, [], ◌∷◌, ◌++◌, length, Option, Some, None, Bool, refl, sym, ◌∙◌, ap, subst, arith, slice_set, replicate, Ok, Err}
+use Rattle.std.proofs.Common.{◌≡◌, ◌≢◌, ◌⊎◌, inl, inr, ℕ, zero, suc, get_or, ◌<◌, ◌≤◌, List, [], ◌∷◌, ◌++◌, length}
+use Rattle.std.proofs.Common.{Option, Some, None, Bool, refl, sym, ◌∙◌, ap, subst, arith, slice_set, replicate, Ok, Err}
 use Rattle.std.specs.Prelude.{if◌then◌else◌, IsSome, Contains, option_to_list, slice_get, nat_lt}
 use Rattle.std.proofs.lemmas.Bool.{cases_eq, cases_lt}
 use Rattle.std.proofs.lemmas.Bool.Decides.{nat_tests}
@@ -10,7 +11,8 @@ use Rattle.bank_trait.specs.declared.Failed.{Failed}
 use Rattle.file_bank.specs.declared.record.Call.{Call}
 use Rattle.file_bank.specs.declared.record.Call.TheVariants.{Write, Sync}
 use Rattle.file_bank.specs.BlockFile.{GoesOn, Written, Settled}
-use Rattle.file_bank.specs.Record.{FileHeld, all_certain, after_call, moment_of, replayed_to, AllBy, LeadsToSectors, contents_of}
+use Rattle.file_bank.specs.Record.{FileHeld, all_certain, after_call, moment_of, replayed_to, AllBy, LeadsToSectors}
+use Rattle.file_bank.specs.Record.{contents_of}
 use Rattle.file_bank.specs.MemLaws.{not_before, is_before, by_head, by_tail, replay_still}
 
 -- A call is replayed from its moment on.

@@ -1,5 +1,6 @@
 -- What a file of sectors holds, what a crash may leave of it, and what each call does to that.
-use Rattle.std.specs.Prelude.{◌≡◌, ◌≢◌, ◌⊎◌, ℕ, ◌/◌, ◌%◌, ◌<◌, ◌≤◌, List, [], Option, Some, None, Result, OnOk, OnErr, IsSome, Contains, length, take, drop}
+use Rattle.std.specs.Prelude.{◌≡◌, ◌≢◌, ◌⊎◌, ℕ, ◌/◌, ◌%◌, ◌<◌, ◌≤◌, List, [], Option, Some, None, Result, OnOk, OnErr}
+use Rattle.std.specs.Prelude.{IsSome, Contains, length, take, drop}
 use Rattle.bank_trait.specs.Causes.{counted}
 use Rattle.bank_trait.specs.declared.Failed.{Failed}
 

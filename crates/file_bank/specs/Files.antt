@@ -1,5 +1,6 @@
 -- Several files as the devices of one bank.
-use Rattle.std.specs.Prelude.{◌≡◌, ◌≢◌, ◌⊎◌, ℕ, ◌+◌, ◌*◌, ◌<◌, ◌≤◌, ◌/◌, min, max, List, Option, Some, None, Result, OnOk, OnErr, IsSome, unwrap_or, length, slice_index_or}
+use Rattle.std.specs.Prelude.{◌≡◌, ◌≢◌, ◌⊎◌, ℕ, ◌+◌, ◌*◌, ◌<◌, ◌≤◌, ◌/◌, min, max, List, Option, Some, None, Result}
+use Rattle.std.specs.Prelude.{OnOk, OnErr, IsSome, unwrap_or, length, slice_index_or}
 use Rattle.bank_trait.specs.Causes.{FaultCounted, FailedOnce, NoneFailed}
 use Rattle.bank_trait.specs.Disk.{Disk}
 use Rattle.bank_trait.specs.declared.Failed.{Failed}

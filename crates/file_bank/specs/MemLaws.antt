@@ -1,11 +1,13 @@
 -- The laws of a file in memory.
-use Rattle.std.specs.Prelude.{◌≡◌, ℕ, ◌<◌, ◌≤◌, List, [], ◌∷◌, zero, suc, Option, Some, None, Bool, true, false, ◌==◌, if◌then◌else◌, length, slice_get, nat_lt, Contains, option_to_list, refl}
+use Rattle.std.specs.Prelude.{◌≡◌, ℕ, ◌<◌, ◌≤◌, List, [], ◌∷◌, zero, suc, Option, Some, None, Bool, true, false, ◌==◌}
+use Rattle.std.specs.Prelude.{if◌then◌else◌, length, slice_get, nat_lt, Contains, option_to_list, refl}
 use Rattle.std.proofs.Common.{sym, ◌∙◌, ap, arith, get_or}
 use Rattle.std.proofs.lemmas.Bool.Decides.{nat_tests}
 use Rattle.file_bank.specs.BlockFile.{LawfulFile}
 use Rattle.file_bank.specs.declared.record.Call.{Call}
 use Rattle.file_bank.specs.declared.record.Call.TheVariants.{Write, Sync}
-use Rattle.file_bank.specs.Record.{FileHeld, all_certain, after_call, moment_of, replayed_to, AllBy, LeadsToSectors, contents_of}
+use Rattle.file_bank.specs.Record.{FileHeld, all_certain, after_call, moment_of, replayed_to, AllBy, LeadsToSectors}
+use Rattle.file_bank.specs.Record.{contents_of}
 
 pub not_before : (t moment : ℕ) → moment ≤ t → nat_lt t moment ≡ false
 not_before t moment le = grind (arith, nat_tests)

@@ -1,6 +1,7 @@
 -- What a record of writes and syncs says of a file in memory: what is read, what a crash leaves for
 -- certain, and what each sector could hold.
-use Rattle.std.specs.Prelude.{◌≡◌, ℕ, ◌*◌, ◌≤◌, List, [], ◌∷◌, Option, Some, None, ◌==◌, if◌then◌else◌, length, slice_get, nat_lt, option_to_list, All}
+use Rattle.std.specs.Prelude.{◌≡◌, ℕ, ◌*◌, ◌≤◌, List, [], ◌∷◌, Option, Some, None, ◌==◌, if◌then◌else◌, length}
+use Rattle.std.specs.Prelude.{slice_get, nat_lt, option_to_list, All}
 use Rattle.file_bank.specs.BlockFile.{Contents}
 use Rattle.file_bank.specs.declared.record.Call.{Call}
 use Rattle.file_bank.specs.declared.record.Call.TheVariants.{Write, Sync}

@@ -1,5 +1,6 @@
 // One sector of one file, which may not have been opened.
-ghost use Rattle.std.specs.Prelude.{◌≡◌, ◌⊎◌, ◌<◌, ◌≤◌, ◌+◌, ◌*◌, ◌/◌, ◌%◌, List, ℕ, Some, None, IfOk, IfErr, OnOk, OnErr, take};
+ghost use Rattle.std.specs.Prelude.{◌≡◌, ◌⊎◌, ◌<◌, ◌≤◌, ◌+◌, ◌*◌, ◌/◌, ◌%◌, List, ℕ, Some, None, IfOk, IfErr, OnOk};
+ghost use Rattle.std.specs.Prelude.{OnErr, take};
 ghost use Rattle.bank_trait.specs.Causes.{FaultCounted, HasCause};
 ghost use Rattle.file_bank.specs.BlockFile.{Written, Settled};
 ghost use Rattle.file_bank.specs.Files.{FileEndsBefore, HasFileCause, faults_shown, shown};

@@ -1,5 +1,6 @@
 -- What holds of the powers of x holds of every byte, where both sides are linear.
-use Rattle.std.proofs.Common.{◌≡◌, ℕ, zero, suc, ◌+◌, ◌-◌, ◌*◌, ◌^◌, ◌<◌, ◌≤◌, Bool, true, false, refl, sym, ◌∙◌, ap, arith, ⊎_elim}
+use Rattle.std.proofs.Common.{◌≡◌, ℕ, zero, suc, ◌+◌, ◌-◌, ◌*◌, ◌^◌, ◌<◌, ◌≤◌, Bool, true, false, refl, sym, ◌∙◌, ap}
+use Rattle.std.proofs.Common.{arith, ⊎_elim}
 use Rattle.std.specs.Prelude.{◌&&◌, bit_xor}
 use Rattle.std.proofs.lemmas.Nat.{xor_block, xor_lt, pow_pos}
 use Rattle.std.specs.Int.Bits.{xor_self, xor_zero_l}

@@ -1,12 +1,14 @@
 -- Parity from the left: the sum so far is multiplied once, and the next byte added.
-use Rattle.std.proofs.Common.{◌≡◌, ℕ, zero, suc, ◌+◌, ◌<◌, ◌≤◌, List, [], ◌∷◌, ◌++◌, length, refl, sym, ◌∙◌, ap, arith, length-append}
+use Rattle.std.proofs.Common.{◌≡◌, ℕ, zero, suc, ◌+◌, ◌<◌, ◌≤◌, List, [], ◌∷◌, ◌++◌, length, refl, sym, ◌∙◌, ap, arith}
+use Rattle.std.proofs.Common.{length-append}
 use Rattle.std.specs.Prelude.{bit_xor, slice_index, slice_index_or, take}
 use Rattle.std.proofs.Math.ListN.{get_or}
 use Rattle.std.proofs.lemmas.List.{take_more, take_all}
 use Rattle.std.proofs.lemmas.Grind.{same_number_lists}
 use Rattle.std.specs.Int.Bits.{xor_assoc, xor_zero_l, xor_zero_r}
 use Rattle.gf_parity.specs.Field.{product, power_of}
-use Rattle.gf_parity.specs.Parity.{sum_of, weighted_sum, p_of, q_of, r_of, parity_byte, bytes_at, parity_from, parity_column}
+use Rattle.gf_parity.specs.Parity.{sum_of, weighted_sum, p_of, q_of, r_of, parity_byte, bytes_at, parity_from}
+use Rattle.gf_parity.specs.Parity.{parity_column}
 use Rattle.gf_parity.proofs.Laws.{product_assoc, product_below, product_zero}
 use Rattle.gf_parity.proofs.Linear.{product-xor_right}
 

@@ -1,8 +1,12 @@
 -- What operations on vectors of so many bytes give at each lane.
-use Rattle.std.proofs.Common.{◌≡◌, ℕ, ◌+◌, ◌-◌, ◌*◌, ◌/◌, ◌%◌, ◌<◌, ◌≤◌, List, take, ⊎_elim, Bool, true, false, cond, leb, length, get_or, map, replicate, refl, sym, ap, subst, ◌∙◌, arith, rules, w8, get_or-take}
+use Rattle.std.proofs.Common.{◌≡◌, ℕ, ◌+◌, ◌-◌, ◌*◌, ◌/◌, ◌%◌, ◌<◌, ◌≤◌, List, take, ⊎_elim, Bool, true, false, cond}
+use Rattle.std.proofs.Common.{leb, length, get_or, map, replicate, refl, sym, ap, subst, ◌∙◌, arith, rules, w8}
+use Rattle.std.proofs.Common.{get_or-take}
 use Rattle.std.specs.Prelude.{bit_xor}
 use Rattle.std.specs.Simd.Lanes.{zip2, sel_l, top, put_chunk}
-use Rattle.std.proofs.lemmas.Simd.{length-zip2, get_or-zip2, get_or-replicate, length-replicate, length-sel_l, get_or-sel_l, tops_compared, length-chunk, length-put_chunk, get_or-put_chunk_at, get_or-put_chunk_above, get_or-chunk}
+use Rattle.std.proofs.lemmas.Simd.{length-zip2, get_or-zip2, get_or-replicate, length-replicate, length-sel_l}
+use Rattle.std.proofs.lemmas.Simd.{get_or-sel_l, tops_compared, length-chunk, length-put_chunk, get_or-put_chunk_at}
+use Rattle.std.proofs.lemmas.Simd.{get_or-put_chunk_above, get_or-chunk}
 use Rattle.std.proofs.lemmas.Bool.{leb-true, leb-false, cases_lt}
 use Rattle.std.proofs.lemmas.List.{get_or_append_left, get_or-append_right, length-take-le, get_or_past, places}
 use borrow.Rule.Slice.PartMut.{put_mid, mid_of, post_of}

@@ -7,7 +7,8 @@ use Rattle.gf_solve.specs.declared.gaps.Gaps.TheVariants.{One, Two, Three}
 use Rattle.gf_solve.specs.Weight.{column_point, share, two_shares, three_shares}
 use Rattle.gf_solve.specs.Row.{AreSectors}
 use Rattle.gf_solve.specs.Gaps.{IsGap, AgreeBut}
-use Rattle.gf_solve.proofs.Restored.{closed, emptied, no_gap_left, same_sectors, lack_of_one, lack_of_two, lack_of_three}
+use Rattle.gf_solve.proofs.Restored.{closed, emptied, no_gap_left, same_sectors, lack_of_one, lack_of_two}
+use Rattle.gf_solve.proofs.Restored.{lack_of_three}
 
 -- what one column's byte was
 abbrev pub byte_of : List (List ℕ) → ℕ → ℕ → ℕ

@@ -1,5 +1,6 @@
 -- Each byte but 0 has an inverse, and powers of 2 differ.
-use Rattle.std.proofs.Common.{◌≡◌, ◌≢◌, ℕ, zero, suc, ◌+◌, ◌-◌, ◌<◌, ◌≤◌, Bool, true, false, refl, sym, ◌∙◌, ap, arith, ⊎_elim}
+use Rattle.std.proofs.Common.{◌≡◌, ◌≢◌, ℕ, zero, suc, ◌+◌, ◌-◌, ◌<◌, ◌≤◌, Bool, true, false, refl, sym, ◌∙◌, ap, arith}
+use Rattle.std.proofs.Common.{⊎_elim}
 use Rattle.std.specs.Prelude.{◌&&◌, ◌||◌, ◌==◌, not, bit_xor, nat_lt}
 use Rattle.std.proofs.lemmas.Bool.{cases_lt}
 use Rattle.std.proofs.lemmas.Bool.Decides.{nat_tests}
@@ -7,7 +8,8 @@ use Rattle.std.proofs.lemmas.Nat.{xor_of_8}
 use Rattle.std.specs.Int.Bits.{xor_self, xor_zero_l, xor_zero_r, xor_assoc}
 use Rattle.gf_parity.specs.Field.{product, double, power_of}
 use Rattle.gf_parity.proofs.Basis.{all_below, all_below_at}
-use Rattle.gf_parity.proofs.Laws.{double_is_product, product_assoc, product_comm, product_below, one_product, product_zero}
+use Rattle.gf_parity.proofs.Laws.{double_is_product, product_assoc, product_comm, product_below, one_product}
+use Rattle.gf_parity.proofs.Laws.{product_zero}
 use Rattle.gf_parity.proofs.Linear.{product-xor_left, product-xor_right}
 use Rattle.gf_parity.proofs.Horner.{power_below}
 use Rattle.gf_solve.specs.Inverse.{inverse_of, squares_times}

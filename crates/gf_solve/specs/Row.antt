@@ -1,5 +1,6 @@
 -- A row as it was, and what is left of it.
-use Rattle.std.specs.Prelude.{◌≡◌, ℕ, zero, suc, ◌+◌, ◌/◌, ◌%◌, ◌^◌, ◌<◌, List, [], length, drop, slice_index, slice_index_or, Bool, false, ◌==◌, if◌then◌else◌}
+use Rattle.std.specs.Prelude.{◌≡◌, ℕ, zero, suc, ◌+◌, ◌/◌, ◌%◌, ◌^◌, ◌<◌, List, [], length, drop, slice_index}
+use Rattle.std.specs.Prelude.{slice_index_or, Bool, false, ◌==◌, if◌then◌else◌}
 use Rattle.gf_parity.specs.Parity.{parity_column}
 
 -- 512 bytes

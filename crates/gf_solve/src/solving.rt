@@ -1,6 +1,7 @@
 // All lost columns of a row, content first.
 
-ghost use Rattle.std.specs.Prelude.{◌≡◌, ◌≢◌, ℕ, ◌+◌, ◌-◌, ◌<◌, ◌≤◌, List, [], length, drop, slice_index_or, true, false};
+ghost use Rattle.std.specs.Prelude.{◌≡◌, ◌≢◌, ℕ, ◌+◌, ◌-◌, ◌<◌, ◌≤◌, List, [], length, drop, slice_index_or, true};
+ghost use Rattle.std.specs.Prelude.{false};
 ghost use Rattle.gf_solve.specs.Row.{AreSectors, IsParityOf, IsRow, IsLeftOf, is_masked, count_lost};
 ghost use Rattle.gf_solve.specs.Serving.{AreServingOf, IsServedBy};
 ghost use Rattle.gf_solve.specs.Gaps.{IsGap, AgreeBut};

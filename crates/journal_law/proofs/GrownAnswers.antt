@@ -1,5 +1,6 @@
 -- The answers of a journal that grows by one item stay right.
-use Rattle.std.proofs.Common.{[], ◌≡◌, ◌≢◌, ◌⊎◌, inl, inr, ℕ, ◌<◌, List, ◌∷◌, ◌++◌, length, Option, Some, None, sym, subst, arith}
+use Rattle.std.proofs.Common.{[], ◌≡◌, ◌≢◌, ◌⊎◌, inl, inr, ℕ, ◌<◌, List, ◌∷◌, ◌++◌, length, Option, Some, None, sym}
+use Rattle.std.proofs.Common.{subst, arith}
 use Rattle.std.specs.Prelude.{option_and_then}
 use Rattle.core_state.specs.declared.answer.Kind.{Kind}
 use Rattle.core_state.specs.declared.answer.Kind.TheVariants as kind
@@ -10,8 +11,10 @@ use Rattle.core_state.specs.declared.item.Group.{Group as GroupItem}
 use Rattle.core_state.specs.declared.item.Item.{Item}
 use Rattle.core_state.specs.declared.item.Item.TheVariants.{Group, Call}
 use Rattle.core_state.specs.Map.{Map, PutBytes}
-use Rattle.core_state.specs.Legal.{CallAt, IsPrevious, IsAnsweredGroup, IsReadOf, IsRightRead, IsRightFree, IsRightSync, IsRightAttach, IsRightCopy, IsRightScrub, IsRightCall, IsAnswerOf, AnswersAreRight}
-use Rattle.journal_law.proofs.Grown.{grown_has, new_or_before, map_before, group_before_grown, group_before_first, previous_in_first}
+use Rattle.core_state.specs.Legal.{CallAt, IsPrevious, IsAnsweredGroup, IsReadOf, IsRightRead, IsRightFree, IsRightSync}
+use Rattle.core_state.specs.Legal.{IsRightAttach, IsRightCopy, IsRightScrub, IsRightCall, IsAnswerOf, AnswersAreRight}
+use Rattle.journal_law.proofs.Grown.{grown_has, new_or_before, map_before, group_before_grown, group_before_first}
+use Rattle.journal_law.proofs.Grown.{previous_in_first}
 
 -- What is right of an index below the first items' number.
 module _ (handed : PutBytes) (opening : Map) (items more : List Item) (previous index : ℕ)

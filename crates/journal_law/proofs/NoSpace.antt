@@ -1,5 +1,6 @@
 -- A run finds no space for a put only where its blocks are many, while the journal grows.
-use Rattle.std.proofs.Common.{[], ◌≡◌, inl, inr, ℕ, ◌-◌, ◌≤◌, List, ◌∷◌, ◌++◌, length, refl, sym, ◌∙◌, ap, subst, arith, if◌then◌else◌, Bool, true, false}
+use Rattle.std.proofs.Common.{[], ◌≡◌, inl, inr, ℕ, ◌-◌, ◌≤◌, List, ◌∷◌, ◌++◌, length, refl, sym, ◌∙◌, ap, subst, arith}
+use Rattle.std.proofs.Common.{if◌then◌else◌, Bool, true, false}
 use Rattle.std.specs.Prelude.{◌==◌, nat_le, take}
 use Rattle.std.proofs.lemmas.Bool.Decides.{nat_tests}
 use Rattle.std.proofs.lemmas.List.{take-append-le}
@@ -19,7 +20,8 @@ use Rattle.core_blocks.specs.Usage.{size_at}
 use Rattle.core_blocks.proofs.Sizes.{size_shrinks}
 use Rattle.core_open.proofs.BlockSpans.{births_between}
 use Rattle.client_script.specs.Script.{Script, handed_by}
-use Rattle.journal_law.specs.NoSpace.{births_told, has_ended, largest_size, width_told, FindsNoSpace, IsBornBehind, NoSpaceIsCaused}
+use Rattle.journal_law.specs.NoSpace.{births_told, has_ended, largest_size, width_told, FindsNoSpace, IsBornBehind}
+use Rattle.journal_law.specs.NoSpace.{NoSpaceIsCaused}
 use Rattle.journal_law.proofs.Grown.{new_or_before, group_before_grown}
 
 -- No width is below the first one,

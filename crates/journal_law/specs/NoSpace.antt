@@ -1,6 +1,7 @@
 -- Why a run finds no space for a put: by the sizes of the blocks that there were at its opening, and of those that
 -- its script puts.
-use Rattle.std.specs.Prelude.{[], ◌≡◌, ◌⊎◌, ◌==◌, ℕ, ◌+◌, List, ◌∷◌, ◌++◌, length, map, flat_map, take, if◌then◌else◌, Bool, true, false}
+use Rattle.std.specs.Prelude.{[], ◌≡◌, ◌⊎◌, ◌==◌, ℕ, ◌+◌, List, ◌∷◌, ◌++◌, length, map, flat_map, take, if◌then◌else◌}
+use Rattle.std.specs.Prelude.{Bool, true, false}
 use Rattle.width_map.specs.declared.birth.Birth.{Birth}
 use Rattle.width_map.specs.Births.{births_after, first_width}
 use Rattle.reflow_mark.specs.Reflow.{sectors_of}

@@ -9,8 +9,8 @@ use Rattle.reflow_mark.specs.Reflow.{IsMark}
 use Rattle.range_locks.specs.declared.hold.Hold.{Hold}
 use Rattle.shadow_write.specs.Required.{IsFrontIn, front_after_stop}
 use Rattle.mark_choice.specs.CommitChoice.{IsChoiceIn, IsCommitChoice}
-use Rattle.reflow_band.specs.Band.{IsWidening, StaysIn, IsFrontOf, copied_of}
-use Rattle.reflow_band.proofs.Within.{front_stays}
+use Rattle.shadow_write.specs.Band.{IsWidening, StaysIn, IsFrontOf, copied_of}
+use Rattle.shadow_write.proofs.Within.{front_stays}
 use Rattle.mark_choice.specs.Advance.{AsksNoMore}
 use Rattle.mark_choice.proofs.Clear.{next_mark_between}
 

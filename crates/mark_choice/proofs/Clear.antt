@@ -1,5 +1,6 @@
 -- No shared hold has a sector whose standing a commit's choice changes.
-use Rattle.std.proofs.Common.{◌≡◌, inr, ⊎_elim, ℕ, ◌*◌, ◌<◌, ◌≤◌, Bool, true, false, List, Some, refl, sym, subst, arith}
+use Rattle.std.proofs.Common.{◌≡◌, inr, ⊎_elim, ℕ, ◌*◌, ◌<◌, ◌≤◌, Bool, true, false, List, Some, refl, sym, subst}
+use Rattle.std.proofs.Common.{arith}
 use Rattle.std.specs.Prelude.{Contains, ◌==◌, if◌then◌else◌, Option}
 use Rattle.std.specs.Prelude.Option.{None as Nothing}
 use Rattle.std.proofs.lemmas.Bool.{cases_lt}

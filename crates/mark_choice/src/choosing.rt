@@ -1,8 +1,9 @@
 // Which reflow a commit records, and what it holds.
 ghost use Rattle.std.specs.Prelude.{◌≡◌, ◌≤◌, ◌↔◌, IsTrue};
 ghost use Rattle.reflow_mark.specs.Reflow.{Expands, IsRightReflow};
-ghost use Rattle.mark_choice.specs.CommitChoice.{IsCommitChoice, IsFilledOrDrained, IsNextMark, moved_to, range_of_commit};
-ghost use Rattle.reflow_band.specs.Band.{IsFrontOf, IsWidening, StaysIn, copied_of};
+ghost use Rattle.mark_choice.specs.CommitChoice.{IsCommitChoice, IsFilledOrDrained, IsNextMark, moved_to};
+ghost use Rattle.mark_choice.specs.CommitChoice.{range_of_commit};
+ghost use Rattle.shadow_write.specs.Band.{IsFrontOf, IsWidening, StaysIn, copied_of};
 ghost use Rattle.shadow_write.specs.Required.{front_after_stop};
 ghost use Rattle.mark_choice.specs.Advance.{AsksNoMore};
 ghost use Rattle.mark_choice.specs.Clear.{HasNoShared};

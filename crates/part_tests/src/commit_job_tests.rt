@@ -72,7 +72,7 @@ fn the_second_half_alone_writes_no_index(rt: HostRuntime) {
 #[test]
 fn copies_go_to_the_devices_that_lack_them(rt: HostRuntime) {
     let (page_lacks, uber_lacks) = (DeviceSet::from_bits(4), DeviceSet::from_bits(6));
-    let mut copies = Commit::copies(3, 9, page_lacks, uber_lacks);
+    let mut copies = Commit::spread(3, 9, page_lacks, uber_lacks);
     let calls = [
         page(2, 0),
         page(2, 1),

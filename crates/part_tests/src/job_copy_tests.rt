@@ -1,6 +1,6 @@
 // Worked rows of a job's calls, one by one to its end.
 use crate::reflows::at_mark;
-use job_copy::{due_job, next_call, sector_of_call};
+use core_copy::{due_job, next_call, sector_of_call};
 use reflow_copier::{CallKind, JobCall};
 use reflow_mark::State;
 

@@ -1,5 +1,6 @@
 -- Turns of clients that share a pool, one after the other.
-use Rattle.std.proofs.Common.{◌≡◌, ℕ, ◌+◌, List, [], ◌∷◌, ◌++◌, length, length-append, append_assoc, append-nil, Option, Some, None, refl, sym, ◌∙◌, ap, subst, arith}
+use Rattle.std.proofs.Common.{◌≡◌, ℕ, ◌+◌, List, [], ◌∷◌, ◌++◌, length, length-append, append_assoc, append-nil, Option}
+use Rattle.std.proofs.Common.{Some, None, refl, sym, ◌∙◌, ap, subst, arith}
 use Rattle.std.specs.Prelude.{replicate}
 use Rattle.std.proofs.lemmas.List.{length-map, map-append, replicate_more}
 use Rattle.core_state.specs.declared.item.Item.{Item}
@@ -15,8 +16,8 @@ use Rattle.schedule.specs.InTurn.{HaveTaken, IsTurnOf, Replay, turns_by}
 use Rattle.schedule.specs.Playing.{HasPlayed, HaveHadTurns, IsReady}
 use Rattle.schedule.specs.Replaying.{HasTurn}
 use Rattle.schedule.specs.Turns.{Turns, TurnTaken, last_left, taken_by, turns_of}
-use Rattle.schedule.proofs.Coming.{came_nowhere, came_on}
-use Rattle.schedule.proofs.InTurn.{gone_counted, gone_taken, taken_more}
+use Rattle.schedule.proofs.run.Coming.{came_nowhere, came_on}
+use Rattle.schedule.proofs.order.InTurn.{gone_counted, gone_taken, taken_more}
 use Rattle.pool_live.specs.declared.live.Had.{Had}
 use Rattle.pool_live.specs.Sharing.{HasCarriedOut, MovesOn, StandsFor, actors_told}
 

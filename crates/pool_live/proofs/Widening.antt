@@ -1,5 +1,6 @@
 -- A script that is carried out with the client that widens the pool, or without.
-use Rattle.std.proofs.Common.{◌≡◌, ◌⊎◌, inl, inr, ⊎_elim, ℕ, zero, suc, ◌<◌, ◌≤◌, List, [], ◌∷◌, map, Bool, true, false, refl, sym, ◌∙◌, ap, subst, arith}
+use Rattle.std.proofs.Common.{◌≡◌, ◌⊎◌, inl, inr, ⊎_elim, ℕ, zero, suc, ◌<◌, ◌≤◌, List, [], ◌∷◌, map, Bool, true, false}
+use Rattle.std.proofs.Common.{refl, sym, ◌∙◌, ap, subst, arith}
 use Rattle.std.specs.Prelude.{All, None, Option, Some}
 use Rattle.std.proofs.lemmas.List.Elements.{All-append, All-cons, All-map, All-nil, All-weaker}
 use Rattle.core_state.specs.declared.answer.Kind.TheVariants.{Attach, Copy}
@@ -11,7 +12,7 @@ use Rattle.core_state.specs.Legal.{GroupAt}
 use Rattle.client_script.specs.declared.call.ScriptCall.{ScriptCall}
 use Rattle.client_script.specs.Copier.{copier_call, copier_calls, with_copier}
 use Rattle.client_script.specs.Script.{IsAllowed, Placed, Script, asked_by}
-use Rattle.open_pool.specs.Pool.{first_item}
+use Rattle.core_open.specs.Pool.{first_item}
 use Rattle.core_turns.specs.Core.{CoreState, HasBankOf}
 use Rattle.schedule.specs.declared.whole_run.Ended.{Ended}
 use Rattle.schedule.specs.declared.whole_run.Ended.TheVariants.{Whole, NoMemory, Limit}
@@ -19,8 +20,8 @@ use Rattle.schedule.specs.InTurn.{InOrder, Replay, replay_at}
 use Rattle.schedule.specs.Playing.{CarriesOut, EndsAs}
 use Rattle.schedule.specs.Replaying.{IsAtRest, blank_clients}
 use Rattle.schedule.specs.Turns.{most_turns, turns_of}
-use Rattle.schedule.proofs.AtRest.{schedule_at_rest}
-use Rattle.schedule.proofs.Coming.{came_nowhere}
+use Rattle.schedule.proofs.run.AtRest.{schedule_at_rest}
+use Rattle.schedule.proofs.run.Coming.{came_nowhere}
 use Rattle.pool_live.specs.Sharing.{AnswersNone, HasCarriedOut}
 use Rattle.pool_live.specs.Widening.{IsAlone, IsCarriedWith, IsScriptWith, TellsExpansion, turns_from}
 

@@ -6,7 +6,7 @@ use Rattle.core_state.specs.declared.item.Item.{Item}
 use Rattle.core_state.specs.Journal.{CallsAreRight, IsComplete}
 use Rattle.client_script.specs.Copier.{with_copier}
 use Rattle.client_script.specs.Script.{Script, asked_by}
-use Rattle.open_pool.specs.Pool.{first_item}
+use Rattle.core_open.specs.Pool.{first_item}
 use Rattle.core_turns.specs.Core.{CoreState}
 use Rattle.schedule.specs.declared.whole_run.Ended.{Ended}
 use Rattle.schedule.specs.declared.whole_run.Ended.TheVariants.{Whole, NoMemory, Limit}

@@ -2,7 +2,8 @@
 ghost use Rattle.std.specs.Prelude.{◌≡◌, ◌++◌, flat_map, decimal, OnOk, OnErr};
 ghost use Rattle.bank_trait.specs.Causes.{HasCause};
 ghost use Rattle.client_script.specs.Written.{IsAdded, IsPartAdded, GainsText, FailsOnlyWithFault};
-ghost use Rattle.pool_status.specs.StatusText.{state_word as word_of, width_text, birth_text, out_text, pool_line, text_of_status};
+ghost use Rattle.pool_status.specs.StatusText.{state_word as word_of, width_text, birth_text, out_text, pool_line};
+ghost use Rattle.pool_status.specs.StatusText.{text_of_status};
 
 use bank_trait::{Failed, Sink};
 use client_script::TextWriter;

@@ -2,8 +2,7 @@
 use bank_mem::MemBank;
 use bank_trait::Bank;
 use block_record::encode_index;
-use core_commit::{CommitRun, CommitStep};
-use join_commit::{JoinRun, JoinStep, WhyDropped};
+use core_commit::{CommitRun, CommitStep, JoinRun, JoinStep, WhyDropped};
 use std::alloc::Global;
 use std::process::Abort;
 use std::test::Fail;

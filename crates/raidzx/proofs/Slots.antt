@@ -4,7 +4,8 @@ use Rattle.bank_trait.specs.Disk.{Disk, Unchanged}
 use Rattle.uberblock_ring.specs.Uberblock.{slot_of}
 use Rattle.core_open.proofs.Unchanged.{then_rose}
 use Rattle.raidzx.specs.declared.seen.Seen.{Seen}
-use Rattle.raidzx.specs.Rings.{IsNoneSeen, IsSlotUnread, LacksNoneOut, ShowsNoneOut, ShowsNoPlace, ShowsPlace, SlotShowsNone}
+use Rattle.raidzx.specs.Rings.{IsNoneSeen, IsSlotUnread, LacksNoneOut, ShowsNoneOut, ShowsNoPlace, ShowsPlace}
+use Rattle.raidzx.specs.Rings.{SlotShowsNone}
 
 -- what was read of a slot, where the bank tells it
 abbrev pub IsReadOf : Disk → ℕ → ℕ → List ℕ → Type 0

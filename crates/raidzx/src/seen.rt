@@ -1,10 +1,12 @@
 // What images show once a command has ended. These are reads alone.
-ghost use Rattle.std.specs.Prelude.{◌≡◌, ◌≢◌, ◌⊎◌, ◌+◌, ◌<◌, ◌≤◌, ◌↔◌, ℕ, List, Some, IfOk, IfSome, IfNone, OnSome, IsTrue, MatchBool, length};
+ghost use Rattle.std.specs.Prelude.{◌≡◌, ◌≢◌, ◌⊎◌, ◌+◌, ◌<◌, ◌≤◌, ◌↔◌, ℕ, List, Some, IfOk, IfSome, IfNone, OnSome};
+ghost use Rattle.std.specs.Prelude.{IsTrue, MatchBool, length};
 ghost use Rattle.bank_trait.specs.Disk.{Image, Unchanged};
 ghost use Rattle.core_open.specs.declared.why.OpenWhy.TheVariants.{NoMemory};
 ghost use Rattle.core_open.specs.Holds.{HoldsImage};
 ghost use Rattle.raidzx.specs.ForGood.{AllShowNoneOut, AreListedOut, AreOutForGood, IsLastBefore, out_of_group};
-ghost use Rattle.raidzx.specs.Rings.{IsFirstSeen, IsNoneSeen, IsSlotUnread, LacksNoneOut, ListsNone, ShowsNoneOut, ShowsNoPlace, ShowsPlace};
+ghost use Rattle.raidzx.specs.Rings.{IsFirstSeen, IsNoneSeen, IsSlotUnread, LacksNoneOut, ListsNone, ShowsNoneOut};
+ghost use Rattle.raidzx.specs.Rings.{ShowsNoPlace, ShowsPlace};
 
 use bank_trait::Bank;
 use core_open::{OpenWhy, find};

@@ -8,7 +8,7 @@ use Rattle.core_state.specs.Keeps.{Kept, Setting, Keeps, IsNotOutvoted}
 use Rattle.core_state.proofs.Fresh.{count_grows, lacks_one}
 use Rattle.core_state.proofs.Listed.{contains_head}
 use Rattle.core_state.proofs.Reader.{shown_alike}
-use Rattle.open_pool.specs.Opening.{MayBegin}
+use Rattle.core_open.specs.Opening.{MayBegin}
 use Rattle.raidzx_top.specs.Bearing.{CanBear, setting_with}
 
 -- A device that may not fail still could not before.

@@ -7,14 +7,14 @@ use Rattle.core_state.specs.Journal.{IsComplete}
 use Rattle.core_open.specs.Causes.{IsOpenCause}
 use Rattle.core_open.specs.Opens.{IsForMemory, LeavesOthers}
 use Rattle.core_open.specs.declared.why.OpenWhy.{OpenWhy}
-use Rattle.open_pool.specs.Opening.{CutsOpening, LeavesUnopened}
+use Rattle.core_open.specs.Opening.{CutsOpening, LeavesUnopened}
 use Rattle.core_state.specs.declared.item.Group.{Group as GroupItem}
 use Rattle.client_script.specs.Script.{IsAllowed, Script, asked_by}
 use Rattle.schedule.specs.declared.whole_run.Ended.TheVariants.{Whole, Limit}
 use Rattle.schedule.specs.declared.whole_run.Ran.{Ran}
 use Rattle.schedule.specs.Turns.{most_turns}
 use Rattle.schedule.specs.WholeRun.{HasRunInTurn}
-use Rattle.schedule.proofs.Whole.{turns_counted}
+use Rattle.schedule.proofs.run.Whole.{turns_counted}
 use Rattle.pool_live.specs.Widening.{HasRunBeside}
 use Rattle.pool_live.proofs.Widening.{carried_actors, widening_allowed}
 use Rattle.raidzx_top.specs.declared.order.Order.{Order}

@@ -1,5 +1,6 @@
 -- What a call of `create` promises follows from how it ends.
-use Rattle.std.proofs.Common.{◌^◌, ◌≡◌, ◌≢◌, ◌⊎◌, inl, inr, ⊎_elim, ℕ, ◌<◌, ◌≤◌, [], Some, refl, sym, ◌∙◌, ap, subst, arith}
+use Rattle.std.proofs.Common.{◌^◌, ◌≡◌, ◌≢◌, ◌⊎◌, inl, inr, ⊎_elim, ℕ, ◌<◌, ◌≤◌, [], Some, refl, sym, ◌∙◌, ap, subst}
+use Rattle.std.proofs.Common.{arith}
 use Rattle.std.specs.Prelude.{true, false}
 use Rattle.std.proofs.lemmas.Bool.{cases_lt, cases_eq}
 use Rattle.bank_trait.specs.Causes.{FaultCounted}
@@ -27,9 +28,11 @@ use Rattle.raidzx_top.specs.Words.{Command, Create}
 use Rattle.raidzx_top.specs.Spelled.{SpellsCreate, IsServedAs, command_of}
 use Rattle.raidzx_top.specs.Call.{IsCarriedOut, IsQuiet, ReadsScript, TopCall}
 use Rattle.raidzx_top.specs.Order.{served_by}
-use Rattle.raidzx_top.specs.Causes.{NoneRose, IsCaused, IsCause, HaveFailedInCall, IsTooSmall, IsFoundImage, ComesWhere, IsOrNoMemory}
+use Rattle.raidzx_top.specs.Causes.{NoneRose, IsCaused, IsCause, HaveFailedInCall, IsTooSmall, IsFoundImage, ComesWhere}
+use Rattle.raidzx_top.specs.Causes.{IsOrNoMemory}
 use Rattle.raidzx_top.specs.RunText.{IsLineFor, TextIsRight, create_text, status_line}
-use Rattle.raidzx_top.specs.Promises.{CreatePromises, IsNewSetting, NoneShowsFrom, RunIsKept, RunCompletes, CallPromises}
+use Rattle.raidzx_top.specs.Promises.{CreatePromises, IsNewSetting, NoneShowsFrom, RunIsKept, RunCompletes}
+use Rattle.raidzx_top.specs.Promises.{CallPromises}
 use Rattle.raidzx_top.specs.StatusCall.{StatusIsTold}
 use Rattle.raidzx_top.specs.Making.{IsSmallFor, HasFailedOn, Makes, IsSaid, EndsCreate}
 use Rattle.raidzx_top.proofs.NewPools.{new_begins}

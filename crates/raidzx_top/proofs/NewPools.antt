@@ -6,7 +6,7 @@ use Rattle.bank_trait.proofs.Touches.{tells_later}
 use Rattle.core_state.specs.Collision.{BankKeeps, HasNoOtherPage}
 use Rattle.core_state.specs.Create.{first_kept}
 use Rattle.core_state.specs.Keeps.{Kept, Setting}
-use Rattle.open_pool.specs.Opening.{MayBegin}
+use Rattle.core_open.specs.Opening.{MayBegin}
 use Rattle.journal_law.proofs.Moments.{contains_one}
 use Rattle.raidzx_top.specs.Call.{TopCall, HoldsImage, shape_of}
 use Rattle.raidzx_top.specs.Promises.{IsNewSetting}

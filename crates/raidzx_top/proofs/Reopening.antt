@@ -1,5 +1,6 @@
 -- What a stop leaves of a run or a replay is read back by the next one.
-use Rattle.std.proofs.Common.{◌≡◌, ◌⊎◌, inl, inr, ⊎_elim, ℕ, zero, suc, ◌+◌, ◌≤◌, List, [], ◌∷◌, ◌++◌, length, sym, ◌∙◌, ap, subst, arith}
+use Rattle.std.proofs.Common.{◌≡◌, ◌⊎◌, inl, inr, ⊎_elim, ℕ, zero, suc, ◌+◌, ◌≤◌, List, [], ◌∷◌, ◌++◌, length, sym, ◌∙◌}
+use Rattle.std.proofs.Common.{ap, subst, arith}
 use Rattle.std.specs.Prelude.{All, Contains, take}
 use Rattle.std.specs.List.{AllZip}
 use Rattle.std.proofs.lemmas.List.Elements.{Contains-append_cases}
@@ -19,14 +20,15 @@ use Rattle.core_state.proofs.Widths.{first_width}
 use Rattle.core_open.specs.Opens.{AddsOne, IsWithinBelow}
 use Rattle.uberblock_ring.specs.Devices.{IsWithin}
 use Rattle.core_open.proofs.Unchanged.{unchanged_keeps}
-use Rattle.open_pool.specs.Opening.{CutsOpening, MayBegin}
-use Rattle.open_pool.specs.Stopped.{IsImageOf}
-use Rattle.open_pool.proofs.Reopened.{stopped_begins}
+use Rattle.core_open.specs.Opening.{CutsOpening, MayBegin}
+use Rattle.core_open.specs.Stopped.{IsImageOf}
+use Rattle.core_open.proofs.Reopened.{stopped_begins}
 use Rattle.client_script.specs.Script.{Script, IsAllowed, asked_by, handed_by}
 use Rattle.journal_law.proofs.Rows.{row_among}
 use Rattle.journal_law.proofs.RunBytes.{HoldsBytes, HandsBytes, after_bytes, script_hands}
 use Rattle.schedule.specs.WholeRun.{HasRun, RunKeeps, banks_of}
-use Rattle.raidzx_top.specs.Reopened.{BearsCut, IsLeft, IsLeftOn, ReadsBack, IsReadBack, SurvivesOpening, SurvivesStops, last_groups}
+use Rattle.raidzx_top.specs.Reopened.{BearsCut, IsLeft, IsLeftOn, ReadsBack, IsReadBack, SurvivesOpening, SurvivesStops}
+use Rattle.raidzx_top.specs.Reopened.{last_groups}
 
 -- The groups have maps of bytes.
 abbrev HaveBytes : List Kept → Type 0

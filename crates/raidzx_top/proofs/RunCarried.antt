@@ -1,5 +1,6 @@
 -- What a run or a replay promises that opened its pool.
-use Rattle.std.proofs.Common.{◌≡◌, ◌≢◌, ◌⊎◌, inl, inr, ⊎_elim, ℕ, ◌≤◌, List, [], Some, true, refl, sym, ◌∙◌, ap, subst, arith}
+use Rattle.std.proofs.Common.{◌≡◌, ◌≢◌, ◌⊎◌, inl, inr, ⊎_elim, ℕ, ◌≤◌, List, [], Some, true, refl, sym, ◌∙◌, ap, subst}
+use Rattle.std.proofs.Common.{arith}
 use Rattle.std.specs.Prelude.{All, slice_get}
 use Rattle.bank_trait.specs.Causes.{FaultCounted}
 use Rattle.bank_trait.specs.Disk.{Image, Lawful}
@@ -19,7 +20,7 @@ use Rattle.core_open.specs.Holds.{HoldsImage, shape_of}
 use Rattle.core_open.specs.declared.why.OpenWhy.TheVariants as reason
 use Rattle.core_open.proofs.Ends.{present_held}
 use Rattle.core_open.proofs.Unhindered.{caused}
-use Rattle.open_pool.proofs.Banks.{count_grows}
+use Rattle.core_open.proofs.Banks.{count_grows}
 use Rattle.client_script.specs.Script.{IsAllowed, handed_by}
 use Rattle.client_script.specs.Texts.{journal_text}
 use Rattle.raidzx_top.specs.declared.running.Trouble.TheVariants as trouble

@@ -14,7 +14,8 @@ use Rattle.raidzx_top.specs.declared.words.ServedCommand.{ServedCommand}
 use Rattle.raidzx_top.specs.declared.words.ServedCommand.TheVariants as served
 use Rattle.raidzx_top.specs.Call.{TopCall, IsCarriedOut, MakesGroups, Opens, ReadsScript}
 use Rattle.raidzx_top.specs.Order.{served_by}
-use Rattle.raidzx_top.specs.Causes.{IsCause, IsFoundImage, IsReadWhole, IsOrNoMemory, IsFaultOrNoMemory, IsTooSmall, FindsNoPool}
+use Rattle.raidzx_top.specs.Causes.{IsCause, IsFoundImage, IsReadWhole, IsOrNoMemory, IsFaultOrNoMemory, IsTooSmall}
+use Rattle.raidzx_top.specs.Causes.{FindsNoPool}
 use Rattle.raidzx_top.specs.Promises.{CallPromises, RunPromises, RunIsKept, LeavesNone, RunsUnhindered, CompletesAll}
 use Rattle.raidzx_top.specs.RunText.{TextIsRight}
 use Rattle.raidzx_top.specs.Spelled.{IsServedAs, command_of}

@@ -19,7 +19,8 @@ use Rattle.raidzx_top.specs.Call.{TopCall, shape_of}
 use Rattle.raidzx_top.specs.Causes.{IsCause, IsReadWhole, IsOrNoMemory, IsFaultOrNoMemory, FindsNoPool}
 use Rattle.raidzx_top.specs.Exit.{read_status, why_status}
 use Rattle.raidzx_top.specs.Promises.{LeavesNone, RunsUnhindered}
-use Rattle.raidzx_top.specs.Running.{IsWell, IsUnread, IsUnopened, HasRead, IsRefused, Unread, Roomless, Unopened, WasRefused}
+use Rattle.raidzx_top.specs.Running.{IsWell, IsUnread, IsUnopened, HasRead, IsRefused, Unread, Roomless, Unopened}
+use Rattle.raidzx_top.specs.Running.{WasRefused}
 use Rattle.raidzx_top.specs.RunText.{IsLineFor}
 use Rattle.raidzx_top.proofs.Reopening.{survives_opening}
 use Rattle.raidzx_top.proofs.Refusing.{said_right}

@@ -17,7 +17,8 @@ use Rattle.raidzx_top.specs.declared.words.NewPool.{NewPool}
 use Rattle.raidzx_top.specs.declared.words.ServedCommand.{ServedCommand}
 use Rattle.raidzx_top.specs.declared.words.ServedCommand.TheVariants as served
 use Rattle.raidzx_top.specs.Call.{TopCall, IsCarriedOut, IsQuiet}
-use Rattle.raidzx_top.specs.Causes.{FindsNoPool, IsCause, IsFaultOrNoMemory, IsFoundImage, IsOrNoMemory, IsReadWhole, IsTooSmall, NoneRose}
+use Rattle.raidzx_top.specs.Causes.{FindsNoPool, IsCause, IsFaultOrNoMemory, IsFoundImage, IsOrNoMemory, IsReadWhole}
+use Rattle.raidzx_top.specs.Causes.{IsTooSmall, NoneRose}
 use Rattle.raidzx_top.specs.Exit.{why_status}
 use Rattle.raidzx_top.specs.Looking.{EndsStatus, IsLookAt, WasSeen, WasUnseen}
 use Rattle.raidzx_top.specs.Order.{served_by}

@@ -3,7 +3,8 @@ use Rattle.std.proofs.Common.{◌≡◌, ⊎_elim, ℕ, ◌+◌, ◌<◌, ◌≤
 use Rattle.std.proofs.lemmas.Bool.{cases_lt}
 use Rattle.std.proofs.lemmas.List.{length-map}
 use Rattle.std.proofs.lemmas.Fmt.{decimal_injective}
-use Rattle.std.specs.Prelude.{◌++◌, codes, drop, ◌^◌, IfNone, None, decimal, Option, Some, slice_get, map, String, string_bytes, option_map}
+use Rattle.std.specs.Prelude.{◌++◌, codes, drop, ◌^◌, IfNone, None, decimal, Option, Some, slice_get, map, String}
+use Rattle.std.specs.Prelude.{string_bytes, option_map}
 use Rattle.std.proofs.lemmas.Option.{slice_get-map, slice_get-get_or, slice_get_within}
 use Rattle.std.specs.declared.alloc.Global.{Global}
 use Rattle.raidzx_top.specs.Images.{AreImages, EachImage, IsImageWord, IsMemoryOf}

@@ -18,7 +18,7 @@ use Rattle.core_state.specs.Collision.{BankKeeps, HasNoOtherPage, MightStand}
 use Rattle.core_state.specs.Create.{IsCreated, first_kept, rows_for}
 use Rattle.core_open.specs.Causes.{AreTooMany}
 use Rattle.core_open.specs.Opens.{IsUnhindered, IsWithinBelow, LeavesOthers}
-use Rattle.open_pool.specs.Opening.{CutsOpening, MayBegin}
+use Rattle.core_open.specs.Opening.{CutsOpening, MayBegin}
 use Rattle.client_script.specs.Script.{Script, IsScript, asked_by}
 use Rattle.client_script.specs.Texts.{journal_text}
 use Rattle.schedule.specs.OfLines.{FollowsLines}

@@ -15,8 +15,8 @@ use Rattle.core_state.specs.Collision.{MightStand, HasNoOtherPage}
 use Rattle.core_open.specs.Holds.{shape_of}
 use Rattle.core_open.specs.Opens.{AddsOne, IsWithinBelow}
 use Rattle.client_script.specs.Script.{Script, asked_by, handed_by}
-use Rattle.open_pool.specs.Opening.{CutsOpening, MayBegin}
-use Rattle.open_pool.specs.Stopped.{IsImageOf, HoldsAlone}
+use Rattle.core_open.specs.Opening.{CutsOpening, MayBegin}
+use Rattle.core_open.specs.Stopped.{IsImageOf, HoldsAlone}
 use Rattle.journal_law.specs.Moments.{KeepsLast, KeepsUntil}
 use Rattle.schedule.specs.Moments.{KeepsTurnByTurn}
 use Rattle.schedule.specs.WholeRun.{HasRun}

@@ -12,7 +12,7 @@ use Rattle.core_state.specs.Legal.{CallAt}
 use Rattle.core_open.specs.Causes.{IsOpenCause}
 use Rattle.core_open.specs.Opens.{IsForMemory, LeavesOthers}
 use Rattle.core_open.specs.declared.why.OpenWhy.{OpenWhy}
-use Rattle.open_pool.specs.Opening.{CutsOpening, LeavesUnopened}
+use Rattle.core_open.specs.Opening.{CutsOpening, LeavesUnopened}
 use Rattle.client_script.specs.FromSource.{IsToldWell, IsNotReadFor}
 use Rattle.client_script.specs.Script.{Script, IsAllowed, IsScript, IsOverLimit, IsFaultAt, asked_by}
 use Rattle.client_script.specs.Texts.{journal_text}

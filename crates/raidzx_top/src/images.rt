@@ -1,5 +1,6 @@
 // The words that name the devices.
-ghost use Rattle.std.specs.Prelude.{◌≡◌, ◌≢◌, ◌+◌, ◌<◌, ◌≤◌, ◌↔◌, ℕ, All, List, Option, Some, None, length, slice_get, codes, IsTrue, IfSome, IfNone, MatchOption, map, string_bytes};
+ghost use Rattle.std.specs.Prelude.{◌≡◌, ◌≢◌, ◌+◌, ◌<◌, ◌≤◌, ◌↔◌, ℕ, All, List, Option, Some, None, length, slice_get};
+ghost use Rattle.std.specs.Prelude.{codes, IsTrue, IfSome, IfNone, MatchOption, map, string_bytes};
 ghost use Rattle.raidzx_top.specs.Images.{AreImages, EachImage, IsImageWord, IsMemoryOf, IsMemoryWord};
 
 use crate::words::{is_word, number};

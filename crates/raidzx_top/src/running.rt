@@ -2,7 +2,8 @@
 ghost use Rattle.std.specs.Prelude.{◌≡◌, ◌<◌, ◌≤◌, ◌↔◌, [], All, IfErr, IfOk, IsTrue, OnOk};
 ghost use Rattle.client_script.specs.Script.{IsAllowed};
 ghost use Rattle.raidzx_top.specs.Call.{stream_of};
-ghost use Rattle.raidzx_top.specs.Running.{AnswersSo, EndsScript, EndsRun, EndsTelling, HasCarried, HasMet, IsStatusOf, IsTold, IsUnopened, ItemTells, StoppedFor};
+ghost use Rattle.raidzx_top.specs.Running.{AnswersSo, EndsScript, EndsRun, EndsTelling, HasCarried, HasMet, IsStatusOf};
+ghost use Rattle.raidzx_top.specs.Running.{IsTold, IsUnopened, ItemTells, StoppedFor};
 
 use crate::order::Order;
 use crate::outcome::Outcome;

@@ -1,5 +1,6 @@
 // The command words.
-ghost use Rattle.std.specs.Prelude.{◌≡◌, ◌+◌, ◌^◌, ◌<◌, ◌≤◌, ◌↔◌, ℕ, length, slice_get, Some, IsTrue, IfSome, IfNone, decimal, map, string_bytes};
+ghost use Rattle.std.specs.Prelude.{◌≡◌, ◌+◌, ◌^◌, ◌<◌, ◌≤◌, ◌↔◌, ℕ, length, slice_get, Some, IsTrue, IfSome, IfNone};
+ghost use Rattle.std.specs.Prelude.{decimal, map, string_bytes};
 ghost use Rattle.raidzx_top.specs.Words.{IsSize};
 ghost use Rattle.raidzx_top.specs.Spelled.{SpellsCreate, SpellsAlone, SpellsBoth, IsServedAs, IsServed};
 ghost use Rattle.raidzx_top.specs.declared.words.NewPool.{NewPool as NewPoolOf};

@@ -1,5 +1,6 @@
 -- How many steps the searches of a grant take.
-use Rattle.std.proofs.Common.{◌≡◌, ℕ, ◌+◌, ◌*◌, ◌^◌, ◌<◌, ◌≤◌, zero, suc, List, [], ◌∷◌, ◌++◌, length, Bool, true, false, refl, sym, ◌∙◌, ap, subst, arith}
+use Rattle.std.proofs.Common.{◌≡◌, ℕ, ◌+◌, ◌*◌, ◌^◌, ◌<◌, ◌≤◌, zero, suc, List, [], ◌∷◌, ◌++◌, length, Bool, true}
+use Rattle.std.proofs.Common.{false, refl, sym, ◌∙◌, ap, subst, arith}
 use Rattle.std.specs.Prelude.{All, cond, count_by}
 use Rattle.std.proofs.Math.Nat.{pow-succ'}
 use Rattle.std.proofs.lemmas.List.Elements.{All-head, All-tail}
@@ -7,7 +8,8 @@ use Rattle.std.proofs.lemmas.List.{length-append}
 use Rattle.std.proofs.lemmas.List.Sums.{sum_by-append, sum_by-cons}
 use Rattle.range_locks.specs.declared.hold.Hold.{Hold}
 use Rattle.range_locks.specs.declared.hold.HoldKind.TheVariants.{Shared, Exclusive}
-use Rattle.range_locks.specs.Order.{AreInOrder, TakesDigits, TakesDigitsOfBoth, exclusive_count, is_exclusive, is_shared, shared_count}
+use Rattle.range_locks.specs.Order.{AreInOrder, TakesDigits, TakesDigitsOfBoth, exclusive_count, is_exclusive}
+use Rattle.range_locks.specs.Order.{is_shared, shared_count}
 
 -- what a hold adds to a count
 abbrev one_if : Bool → ℕ

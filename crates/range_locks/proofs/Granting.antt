@@ -1,5 +1,6 @@
 -- What it comes to that a hold is granted, or refused.
-use Rattle.std.proofs.Common.{◌≡◌, ℕ, ◌<◌, List, ◌∷◌, ◌++◌, get_or, take, drop, arith, refl, sym, subst, Option, Some, None, Result, Ok, Err}
+use Rattle.std.proofs.Common.{◌≡◌, ℕ, ◌<◌, List, ◌∷◌, ◌++◌, get_or, take, drop, arith, refl, sym, subst, Option, Some}
+use Rattle.std.proofs.Common.{None, Result, Ok, Err}
 use Rattle.std.specs.Prelude.{All, AllPairs, Contains, IfOk, IfErr, OnOk, OnErr}
 use Rattle.std.proofs.lemmas.List.Elements.{All-contains, All-get_or, Contains-append_right}
 use Rattle.range_locks.specs.declared.hold.Hold.{Hold}
@@ -13,7 +14,8 @@ use Rattle.range_locks.specs.Holds.{EndsHold, HasSectors, IsBusyBy, IsClear, IsF
 use Rattle.range_locks.specs.Order.{AreInOrder, EndsBefore, IsInOrder, IsPlace}
 use Rattle.range_locks.proofs.Lists.{all_listed}
 use Rattle.range_locks.proofs.Searching.{busy_by_first}
-use Rattle.range_locks.proofs.InOrder.{exclusive_ended, exclusive_put, first_alone, first_shared_either, gains_exclusive, gains_shared, is_among_exclusive, not_shared, shared_put}
+use Rattle.range_locks.proofs.InOrder.{exclusive_ended, exclusive_put, first_alone, first_shared_either}
+use Rattle.range_locks.proofs.InOrder.{gains_exclusive, gains_shared, is_among_exclusive, not_shared, shared_put}
 
 -- The list that a search was handed is in its order.
 pub exclusive_nonempty : (shared exclusive seen : List Hold) → AreInOrder shared exclusive → seen ≡ exclusive → All HasSectors seen

@@ -1,5 +1,6 @@
 -- The lists of holds, as one is put in or taken out.
-use Rattle.std.proofs.Common.{◌≡◌, ℕ, ◌+◌, ◌<◌, ◌≤◌, List, ◌∷◌, ◌++◌, length, suc, get_or, take, drop, sym, ◌∙◌, ap, subst, arith, ⊎_elim, add-one, length-take}
+use Rattle.std.proofs.Common.{◌≡◌, ℕ, ◌+◌, ◌<◌, ◌≤◌, List, ◌∷◌, ◌++◌, length, suc, get_or, take, drop, sym, ◌∙◌, ap}
+use Rattle.std.proofs.Common.{subst, arith, ⊎_elim, add-one, length-take}
 use Rattle.std.specs.Prelude.{All, AllPairs, Contains, remove}
 use Rattle.std.proofs.lemmas.Bool.{cases_lt}
 use Rattle.std.proofs.lemmas.List.{get_or-take, drop_more, take-append-drop}

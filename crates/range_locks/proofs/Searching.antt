@@ -1,13 +1,16 @@
 -- What a search has found, one hold further.
-use Rattle.std.proofs.Common.{◌≡◌, ◌⊎◌, ℕ, ◌<◌, ◌+◌, List, [], ◌∷◌, ◌++◌, length, take, get_or, refl, sym, subst, arith, inl, inr, ⊎_elim}
+use Rattle.std.proofs.Common.{◌≡◌, ◌⊎◌, ℕ, ◌<◌, ◌+◌, List, [], ◌∷◌, ◌++◌, length, take, get_or, refl, sym, subst, arith}
+use Rattle.std.proofs.Common.{inl, inr, ⊎_elim}
 use Rattle.std.specs.Prelude.{true, false, Option, Some, None, min}
 use Rattle.std.proofs.lemmas.Bool.{cases_lt}
 use Rattle.std.proofs.lemmas.List.{take_more}
-use Rattle.std.proofs.lemmas.List.Elements.{Contains-append_cases, Contains-append_left, Contains-append_right, Contains-push, Contains-push_cases}
+use Rattle.std.proofs.lemmas.List.Elements.{Contains-append_cases, Contains-append_left, Contains-append_right}
+use Rattle.std.proofs.lemmas.List.Elements.{Contains-push, Contains-push_cases}
 use Rattle.range_locks.specs.declared.hold.Hold.{Hold}
 use Rattle.range_locks.specs.declared.hold.HoldKind.{HoldKind}
 use Rattle.range_locks.specs.declared.hold.HoldKind.TheVariants.{Shared}
-use Rattle.range_locks.specs.Holds.{ConflictsWith, IsClear, Precedes, IsBusyBy, IsFirstIn, IsFirst, IsSharedFrom, BeginsShared, IsFirstSharedFrom}
+use Rattle.range_locks.specs.Holds.{ConflictsWith, IsClear, Precedes, IsBusyBy, IsFirstIn, IsFirst, IsSharedFrom}
+use Rattle.range_locks.specs.Holds.{BeginsShared, IsFirstSharedFrom}
 use Rattle.range_locks.specs.Search.{IsEarlier, lesser_of}
 
 -- No test is both.

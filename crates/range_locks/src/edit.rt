@@ -1,5 +1,6 @@
 // Lists of holds, with one put in or taken out.
-ghost use Rattle.std.specs.Prelude.{◌≡◌, ◌≤◌, ◌++◌, ◌∷◌, All, AllPairs, Contains, IfOk, IfErr, OnErr, OnOk, length, take, drop};
+ghost use Rattle.std.specs.Prelude.{◌≡◌, ◌≤◌, ◌++◌, ◌∷◌, All, AllPairs, Contains, IfOk, IfErr, OnErr, OnOk, length};
+ghost use Rattle.std.specs.Prelude.{take, drop};
 ghost use Rattle.range_locks.specs.Holds.{EndsHold};
 ghost use Rattle.range_locks.specs.Order.{IsInOrder};
 

@@ -1,7 +1,9 @@
 // The holds of all actors.
-ghost use Rattle.std.specs.Prelude.{◌≡◌, ◌+◌, ◌<◌, ◌≤◌, ◌++◌, [], ◌↔◌, Contains, IfOk, IfErr, OnErr, IsTrue, All, AllPairs, length};
+ghost use Rattle.std.specs.Prelude.{◌≡◌, ◌+◌, ◌<◌, ◌≤◌, ◌++◌, [], ◌↔◌, Contains, IfOk, IfErr, OnErr, IsTrue, All};
+ghost use Rattle.std.specs.Prelude.{AllPairs, length};
 ghost use Rattle.range_locks.specs.Gaining.{Gains};
-ghost use Rattle.range_locks.specs.Holds.{AreExclusive, HasSectors, IsClear, IsFirst, IsFirstSharedFrom, Straddles, EndsHold, IsLockCause};
+ghost use Rattle.range_locks.specs.Holds.{AreExclusive, HasSectors, IsClear, IsFirst, IsFirstSharedFrom, Straddles};
+ghost use Rattle.range_locks.specs.Holds.{EndsHold, IsLockCause};
 ghost use Rattle.range_locks.specs.Order.{EndsBefore, IsInOrder, TakesDigitsOfBoth};
 
 use crate::bound::Bound;

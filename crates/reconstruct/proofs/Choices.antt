@@ -1,5 +1,6 @@
 -- How choices are tried: place by place, each with the choices behind it.
-use Rattle.std.proofs.Common.{◌≡◌, ℕ, ◌+◌, ◌-◌, ◌<◌, ◌≤◌, List, [], ◌∷◌, length, Option, Some, None, Result, Ok, Err, IfOk, IfSome, IfNone, Bool, true, false, refl, sym, ◌∙◌, ap, subst, arith, ⊎_elim}
+use Rattle.std.proofs.Common.{◌≡◌, ℕ, ◌+◌, ◌-◌, ◌<◌, ◌≤◌, List, [], ◌∷◌, length, Option, Some, None, Result, Ok, Err}
+use Rattle.std.proofs.Common.{IfOk, IfSome, IfNone, Bool, true, false, refl, sym, ◌∙◌, ap, subst, arith, ⊎_elim}
 use Rattle.std.specs.Prelude.{slice_get, slice_index, slice_index_or, ◌||◌}
 use Rattle.std.specs.List.{list_any, filter_map, cons_option}
 use Rattle.std.proofs.lemmas.Bool.{cases_lt}
@@ -11,7 +12,8 @@ use Rattle.row_layout.proofs.Parts.{whole_row_in, last_row_in}
 use Rattle.reconstruct.specs.declared.pair.Pair.{Pair}
 use Rattle.reconstruct.specs.Rows.{Rows}
 use Rattle.reconstruct.specs.Suspects.{Choice, AscendFrom, IsLower, is_suspect, suspects_sector}
-use Rattle.reconstruct.specs.Solved.{columns_with, is_masked_lost, is_lost, ServesRow, TellsBytes, Question, question_with, Told, IsDecoded, IsDamaged}
+use Rattle.reconstruct.specs.Solved.{columns_with, is_masked_lost, is_lost, ServesRow, TellsBytes, Question}
+use Rattle.reconstruct.specs.Solved.{question_with, Told, IsDecoded, IsDamaged}
 use Rattle.reconstruct.specs.Tried.{IsPick, IsFirstTold, NoneTold}
 
 -- ---- what is lost, told in two ways

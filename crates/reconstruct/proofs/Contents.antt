@@ -1,5 +1,6 @@
 -- The content columns of a row, one by one.
-use Rattle.std.proofs.Common.{◌≡◌, ℕ, zero, suc, ◌+◌, ◌-◌, ◌<◌, ◌≤◌, List, [], ◌∷◌, ◌++◌, length, refl, sym, ◌∙◌, ap, arith, ⊎_elim, length-append}
+use Rattle.std.proofs.Common.{◌≡◌, ℕ, zero, suc, ◌+◌, ◌-◌, ◌<◌, ◌≤◌, List, [], ◌∷◌, ◌++◌, length, refl, sym, ◌∙◌, ap}
+use Rattle.std.proofs.Common.{arith, ⊎_elim, length-append}
 use Rattle.std.specs.Prelude.{slice_index_or, Bool, true, false, if◌then◌else◌, nat_lt}
 use Rattle.gf_parity.specs.Parity.{parity_column}
 use Rattle.row_layout.specs.declared.column.Part.TheVariants.{Parity, Content, Missing}

@@ -2,7 +2,8 @@
 use Rattle.std.proofs.Common.{◌≡◌, ℕ, ◌+◌, ◌-◌, ◌*◌, ◌<◌, List, ◌++◌, length, refl, sym, ◌∙◌, ap, arith, ⊎_elim}
 use Rattle.std.specs.Prelude.{take, drop, replicate, min}
 use Rattle.std.proofs.lemmas.Bool.{cases_lt}
-use Rattle.std.proofs.lemmas.List.{take-append-le, take-replicate, drop-replicate, take_all, drop_all, length-drop, length-take, length-append, append-nil, length-replicate}
+use Rattle.std.proofs.lemmas.List.{take-append-le, take-replicate, drop-replicate, take_all, drop_all, length-drop}
+use Rattle.std.proofs.lemmas.List.{length-take, length-append, append-nil, length-replicate}
 use Rattle.std.proofs.Math.Seq.{take-append-add}
 use Rattle.reconstruct.specs.Columns.{zero_sector, content_sector}
 

@@ -1,5 +1,6 @@
 -- A mask without the columns that are missing.
-use Rattle.std.proofs.Common.{◌≡◌, ◌≢◌, ℕ, zero, suc, ◌+◌, ◌-◌, ◌*◌, ◌/◌, ◌%◌, ◌^◌, ◌<◌, ◌≤◌, Bool, true, false, refl, sym, ◌∙◌, ap, arith, ⊎_elim}
+use Rattle.std.proofs.Common.{◌≡◌, ◌≢◌, ℕ, zero, suc, ◌+◌, ◌-◌, ◌*◌, ◌/◌, ◌%◌, ◌^◌, ◌<◌, ◌≤◌, Bool, true, false, refl}
+use Rattle.std.proofs.Common.{sym, ◌∙◌, ap, arith, ⊎_elim}
 use Rattle.std.specs.Prelude.{bit_and, bit_or, ◌&&◌, ◌||◌, ◌==◌, nat_lt, max}
 use Rattle.std.specs.Int.{w64, from_bool}
 use Rattle.std.proofs.lemmas.Bool.{cases_lt}

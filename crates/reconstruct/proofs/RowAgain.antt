@@ -1,14 +1,17 @@
 -- The columns of a row of a block: parity, and the content that it is of.
-use Rattle.std.proofs.Common.{◌≡◌, ℕ, zero, suc, ◌+◌, ◌-◌, ◌*◌, ◌<◌, List, [], ◌∷◌, ◌++◌, length, Bool, true, false, refl, sym, ◌∙◌, ap, arith, ⊎_elim, length-append}
+use Rattle.std.proofs.Common.{◌≡◌, ℕ, zero, suc, ◌+◌, ◌-◌, ◌*◌, ◌<◌, List, [], ◌∷◌, ◌++◌, length, Bool, true, false}
+use Rattle.std.proofs.Common.{refl, sym, ◌∙◌, ap, arith, ⊎_elim, length-append}
 use Rattle.std.specs.Prelude.{take, drop, replicate, slice_index, slice_index_or, nat_lt, if◌then◌else◌}
 use Rattle.std.proofs.lemmas.Bool.{cases_lt}
-use Rattle.std.proofs.lemmas.List.{get_or_append_left, get_or-append-add, get_or_push, get_or-take, get_or-drop, get_or_past, length-take, length-replicate}
+use Rattle.std.proofs.lemmas.List.{get_or_append_left, get_or-append-add, get_or_push, get_or-take, get_or-drop}
+use Rattle.std.proofs.lemmas.List.{get_or_past, length-take, length-replicate}
 use Rattle.gf_parity.specs.Parity.{parity_column}
 use Rattle.gf_solve.specs.Row.{IsSector, AreSectors}
 use Rattle.row_layout.specs.declared.column.Part.TheVariants.{Content, Missing}
 use Rattle.row_layout.specs.Layout.{Layout, columns_of, height_of, content_before}
 use Rattle.row_layout.proofs.Parts.{parity_here}
-use Rattle.reconstruct.specs.Columns.{zero_sector, content_sector, content_bytes, row_contents, part_bytes, column_bytes}
+use Rattle.reconstruct.specs.Columns.{zero_sector, content_sector, content_bytes, row_contents, part_bytes}
+use Rattle.reconstruct.specs.Columns.{column_bytes}
 use Rattle.reconstruct.specs.Lost.{AreBytes}
 use Rattle.reconstruct.proofs.Contents.{length-row_contents, row_contents-at, row_holds}
 

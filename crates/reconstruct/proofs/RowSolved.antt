@@ -1,5 +1,6 @@
 -- A row that was solved, missing columns and all.
-use Rattle.std.proofs.Common.{◌≡◌, ℕ, ◌+◌, ◌-◌, ◌/◌, ◌^◌, ◌<◌, ◌≤◌, List, [], length, Bool, true, false, sym, ◌∙◌, ap, subst, arith, ⊎_elim}
+use Rattle.std.proofs.Common.{◌≡◌, ℕ, ◌+◌, ◌-◌, ◌/◌, ◌^◌, ◌<◌, ◌≤◌, List, [], length, Bool, true, false, sym, ◌∙◌, ap}
+use Rattle.std.proofs.Common.{subst, arith, ⊎_elim}
 use Rattle.std.specs.Prelude.{drop, slice_index_or, bit_and, nat_lt, ◌&&◌}
 use Rattle.std.proofs.lemmas.Bool.{cases_lt}
 use Rattle.std.proofs.lemmas.Bool.Decides.{nat_tests}
@@ -13,7 +14,8 @@ use Rattle.row_layout.proofs.Laws.{missing_behind}
 use Rattle.reconstruct.specs.Columns.{zero_sector, part_bytes, column_bytes}
 use Rattle.reconstruct.specs.SolvedRow.{ServesBy, HoldsColumnsOf, IsSolvedRow}
 use Rattle.reconstruct.proofs.Masks.{masked_low}
-use Rattle.reconstruct.proofs.RowAgain.{content_of_row, content_sectors, length-content_of_row, content_of_row-at, parity_of_row}
+use Rattle.reconstruct.proofs.RowAgain.{content_of_row, content_sectors, length-content_of_row, content_of_row-at}
+use Rattle.reconstruct.proofs.RowAgain.{parity_of_row}
 
 -- A missing column counts as zeros.
 pub missing_zero : (layout : Layout) (bytes : List ℕ) (row column : ℕ) → IsLayout layout → row < rows_of layout → column < columns_of layout

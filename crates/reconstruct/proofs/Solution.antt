@@ -1,5 +1,6 @@
 -- What rows that were solved hold: the content of whatever bytes solve, and always of some.
-use Rattle.std.proofs.Common.{◌≡◌, ℕ, zero, suc, ◌+◌, ◌-◌, ◌*◌, ◌/◌, ◌%◌, ◌<◌, ◌≤◌, List, [], ◌++◌, length, length-append, Bool, false, refl, sym, ◌∙◌, ap, arith, ⊎_elim}
+use Rattle.std.proofs.Common.{◌≡◌, ℕ, zero, suc, ◌+◌, ◌-◌, ◌*◌, ◌/◌, ◌%◌, ◌<◌, ◌≤◌, List, [], ◌++◌, length}
+use Rattle.std.proofs.Common.{length-append, Bool, false, refl, sym, ◌∙◌, ap, arith, ⊎_elim}
 use Rattle.std.specs.Prelude.{take, drop, slice_index, slice_index_or, ◌&&◌, nat_lt}
 use Rattle.std.proofs.lemmas.Bool.{cases_lt}
 use Rattle.std.proofs.lemmas.Bool.Decides.{nat_tests}
@@ -8,7 +9,8 @@ use Rattle.std.proofs.lemmas.List.{get_or-take, get_or-drop, length-take, length
 use Rattle.std.proofs.Math.Nat.{add-mul, one-mul, mul-le-mul_right}
 use Rattle.gf_parity.specs.Parity.{parity_column}
 use Rattle.row_layout.specs.declared.column.Part.TheVariants.{Content}
-use Rattle.row_layout.specs.Layout.{Layout, IsLayout, IsColumn, rows_of, columns_of, columns_in, content_columns, content_before, height_of, part_of}
+use Rattle.row_layout.specs.Layout.{Layout, IsLayout, IsColumn, rows_of, columns_of, columns_in, content_columns}
+use Rattle.row_layout.specs.Layout.{content_before, height_of, part_of}
 use Rattle.row_layout.specs.Standing.{StandsOnce}
 use Rattle.row_layout.proofs.Laws.{stands_once}
 use Rattle.row_layout.proofs.Once.{before_all}

@@ -1,5 +1,6 @@
 -- What whole sectors that were told say of the bytes in them.
-use Rattle.std.proofs.Common.{◌≡◌, ℕ, ◌-◌, ◌*◌, ◌<◌, ◌≤◌, List, ◌++◌, false, IsTrue, length, length-append, sym, ◌∙◌, ap, subst, arith}
+use Rattle.std.proofs.Common.{◌≡◌, ℕ, ◌-◌, ◌*◌, ◌<◌, ◌≤◌, List, ◌++◌, false, IsTrue, length, length-append, sym, ◌∙◌}
+use Rattle.std.proofs.Common.{ap, subst, arith}
 use Rattle.std.specs.Prelude.{take, replicate, slice_index}
 use Rattle.std.proofs.lemmas.List.{get_or_past, take_all, length-take, length-replicate}
 use Rattle.std.proofs.Math.Seq.{take-append_seam}

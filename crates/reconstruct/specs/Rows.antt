@@ -1,5 +1,6 @@
 -- The columns of a block's rows.
-use Rattle.std.specs.Prelude.{◌≡◌, ◌≢◌, ◌⊎◌, ℕ, ◌+◌, ◌*◌, ◌/◌, ◌<◌, ◌≤◌, List, [], length, slice_index, slice_index_or, slice_set}
+use Rattle.std.specs.Prelude.{◌≡◌, ◌≢◌, ◌⊎◌, ℕ, ◌+◌, ◌*◌, ◌/◌, ◌<◌, ◌≤◌, List, [], length, slice_index, slice_index_or}
+use Rattle.std.specs.Prelude.{slice_set}
 use Rattle.row_layout.specs.declared.column.Part.TheVariants.{Content}
 use Rattle.row_layout.specs.Layout.{Layout, IsColumn, rows_of, columns_of, part_of}
 use Rattle.reconstruct.specs.Columns.{column_bytes}

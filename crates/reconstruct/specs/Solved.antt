@@ -1,5 +1,6 @@
 -- The bytes that the columns of a block tell, for each choice of what is lost.
-use Rattle.std.specs.Prelude.{◌≡◌, ℕ, ◌-◌, ◌/◌, ◌%◌, ◌^◌, ◌*◌, ◌<◌, ◌≤◌, List, take, length, slice_index, Bool, false, ◌||◌, ◌==◌}
+use Rattle.std.specs.Prelude.{◌≡◌, ℕ, ◌-◌, ◌/◌, ◌%◌, ◌^◌, ◌*◌, ◌<◌, ◌≤◌, List, take, length, slice_index, Bool, false}
+use Rattle.std.specs.Prelude.{◌||◌, ◌==◌}
 use Rattle.sha2.specs.Sha256.{sha256}
 use Rattle.gf_solve.specs.Row.{is_masked, count_lost}
 use Rattle.gf_solve.specs.Serving.{Serves}

@@ -1,6 +1,7 @@
 // A block's bytes from what is left of its rows.
 
-ghost use Rattle.std.specs.Prelude.{◌≡◌, ◌⊎◌, ◌↔◌, ℕ, ◌+◌, ◌*◌, ◌<◌, ◌≤◌, List, [], length, slice_index_or, IfOk, IfSome, IfNone, IsTrue, IsErrOf};
+ghost use Rattle.std.specs.Prelude.{◌≡◌, ◌⊎◌, ◌↔◌, ℕ, ◌+◌, ◌*◌, ◌<◌, ◌≤◌, List, [], length, slice_index_or, IfOk};
+ghost use Rattle.std.specs.Prelude.{IfSome, IfNone, IsTrue, IsErrOf};
 ghost use Rattle.gf_solve.specs.Row.{is_masked, count_lost};
 ghost use Rattle.row_layout.specs.Layout.{rows_of, columns_of, columns_in};
 ghost use Rattle.row_layout.specs.Standing.{IsWithinLimits};

@@ -5,11 +5,13 @@ use Rattle.std.proofs.lemmas.Bool.{cases_lt}
 use Rattle.std.proofs.Math.Nat.{add-mul, mul-add, mul_comm, one-mul, mul-le-mul_right, mul-le-mul_left, div-add-mod}
 use Rattle.row_layout.specs.declared.column.Part.{Part}
 use Rattle.row_layout.specs.declared.column.Part.TheVariants.{Parity, Content, Missing}
-use Rattle.row_layout.specs.Layout.{Layout, IsLayout, IsColumn, content_columns, whole_rows, rows_of, columns_of, columns_in, total_of, height_of, content_before, part_of, sector_of}
+use Rattle.row_layout.specs.Layout.{Layout, IsLayout, IsColumn, content_columns, whole_rows, rows_of, columns_of}
+use Rattle.row_layout.specs.Layout.{columns_in, total_of, height_of, content_before, part_of, sector_of}
 use Rattle.row_layout.specs.Standing.{IsOnlyPlace, StandsOnce}
 use Rattle.row_layout.proofs.Counts.{split, rows_short}
 use Rattle.row_layout.proofs.Once.{IsContentAt, once, somewhere}
-use Rattle.row_layout.proofs.Parts.{parity_here, content_here, missing_here, columns_few, whole_row_in, last_row_in, last_row_is, reaches, reached}
+use Rattle.row_layout.proofs.Parts.{parity_here, content_here, missing_here, columns_few, whole_row_in, last_row_in}
+use Rattle.row_layout.proofs.Parts.{last_row_is, reaches, reached}
 
 content_number : (content other : ℕ) → (◌≡◌ {A = Part} (Content content) (Content other)) → content ≡ other
 content_number content other same = cc

@@ -3,7 +3,8 @@ use Rattle.std.proofs.Common.{◌≡◌, ℕ, zero, suc, ◌+◌, ◌-◌, ◌*�
 use Rattle.std.proofs.lemmas.Bool.{cases_lt}
 use Rattle.std.proofs.Math.Nat.{div-add-mod, add-mul, one-mul, mul-add, mul_comm, mod-lt}
 use Rattle.std.proofs.lemmas.Bool.Decides.{nat_tests}
-use Rattle.row_layout.specs.Layout.{Layout, IsLayout, content_columns, whole_rows, left_over, rows_of, height_of, content_before}
+use Rattle.row_layout.specs.Layout.{Layout, IsLayout, content_columns, whole_rows, left_over, rows_of, height_of}
+use Rattle.row_layout.specs.Layout.{content_before}
 
 -- A content sector stands here, in a column without the parity ones.
 pub record IsContentAt (layout : Layout) (content row column : ℕ) : Type 0 where

@@ -4,7 +4,8 @@ use Rattle.std.proofs.lemmas.Bool.{cases_lt}
 use Rattle.std.proofs.lemmas.Bool.Decides.{nat_tests}
 use Rattle.std.proofs.Math.Nat.{add-mul, one-mul}
 use Rattle.row_layout.specs.declared.column.Part.TheVariants.{Parity, Content, Missing}
-use Rattle.row_layout.specs.Layout.{Layout, IsLayout, content_columns, whole_rows, left_over, rows_of, columns_of, columns_in, height_of, content_before, part_of}
+use Rattle.row_layout.specs.Layout.{Layout, IsLayout, content_columns, whole_rows, left_over, rows_of, columns_of}
+use Rattle.row_layout.specs.Layout.{columns_in, height_of, content_before, part_of}
 use Rattle.row_layout.proofs.Counts.{left_over_few, rows_whole, rows_short}
 use Rattle.row_layout.proofs.Once.{before_whole}
 

@@ -2,7 +2,8 @@
 
 ghost use Rattle.std.specs.Prelude.{◌≡◌, ℕ, ◌+◌, ◌%◌, ◌^◌, ◌<◌, ◌≤◌, ◌≢◌, ◌↔◌};
 ghost use Rattle.row_layout.specs.declared.column.Part.TheVariants.{Content, Missing};
-ghost use Rattle.row_layout.specs.Layout.{IsColumn, whole_rows, left_over, rows_of, columns_of, columns_in, total_of, allocated_of, sector_of, end_of, content_before, part_of, column_of};
+ghost use Rattle.row_layout.specs.Layout.{IsColumn, whole_rows, left_over, rows_of, columns_of, columns_in, total_of};
+ghost use Rattle.row_layout.specs.Layout.{allocated_of, sector_of, end_of, content_before, part_of, column_of};
 ghost use Rattle.row_layout.specs.Standing.{IsWithinLimits, IsOnlyPlace, StandsOnce};
 
 use crate::{Column, Holder, Part};

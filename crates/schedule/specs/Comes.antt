@@ -2,7 +2,7 @@
 use Rattle.std.specs.Prelude.{◌≡◌, ℕ, List, [], ◌∷◌, Some, slice_get}
 use Rattle.bank_trait.specs.Disk.{Lawful}
 use Rattle.client_script.specs.Script.{Script}
-use Rattle.join_commit.specs.declared.join_run.WhyDropped.{WhyDropped}
+use Rattle.core_commit.specs.declared.join_run.WhyDropped.{WhyDropped}
 use Rattle.core_turns.specs.Core.{IsCore}
 use Rattle.schedule.specs.declared.client.Client.{Client}
 use Rattle.schedule.specs.Clients.{Changes}

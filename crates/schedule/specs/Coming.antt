@@ -10,8 +10,8 @@ use Rattle.core_state.specs.declared.item.Entry.{Entry}
 use Rattle.core_state.specs.declared.item.Item.{Item}
 use Rattle.core_state.specs.Legal.{CallAt}
 use Rattle.core_state.specs.World.{World}
-use Rattle.core_client.specs.Outs.{OnlyFailedGoOut}
-use Rattle.join_commit.specs.declared.join_run.WhyDropped.{WhyDropped}
+use Rattle.core_state.specs.Outs.{OnlyFailedGoOut}
+use Rattle.core_commit.specs.declared.join_run.WhyDropped.{WhyDropped}
 use Rattle.core_state.specs.Committing.{point_of}
 use Rattle.core_commit.specs.Spared.{IsOnInUse}
 use Rattle.client_script.specs.declared.call.ScriptCall.{ScriptCall}

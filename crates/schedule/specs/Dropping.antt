@@ -3,9 +3,9 @@ use Rattle.std.specs.Prelude.{◌≡◌, ◌⊎◌, ℕ, List, Some, true}
 use Rattle.bank_trait.specs.Causes.{FaultCounted}
 use Rattle.bank_trait.specs.Disk.{Disk}
 use Rattle.uberblock_ring.specs.Devices.{has_device}
-use Rattle.join_commit.specs.declared.guest.Guest.TheVariants.{Lost}
-use Rattle.join_commit.specs.declared.join_run.WhyDropped.{WhyDropped}
-use Rattle.join_commit.specs.declared.join_run.WhyDropped.TheVariants as why
+use Rattle.core_commit.specs.declared.guest.Guest.TheVariants.{Lost}
+use Rattle.core_commit.specs.declared.join_run.WhyDropped.{WhyDropped}
+use Rattle.core_commit.specs.declared.join_run.WhyDropped.TheVariants as why
 use Rattle.core_turns.specs.declared.attaching.AttachRun.{AttachRun}
 use Rattle.core_turns.specs.declared.attaching.AttachRun.TheVariants.{Joins, Signs}
 use Rattle.schedule.specs.declared.client.Client.{Client}

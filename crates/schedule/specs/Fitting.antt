@@ -8,8 +8,8 @@ use Rattle.core_state.specs.declared.answer.Kind.{Kind}
 use Rattle.core_state.specs.declared.answer.Kind.TheVariants as kind
 use Rattle.core_state.specs.declared.item.Entry.{Entry}
 use Rattle.core_state.specs.Legal.{IsAnswerOf}
-use Rattle.join_commit.specs.declared.join_run.WhyDropped.{WhyDropped}
-use Rattle.join_commit.specs.declared.join_run.WhyDropped.TheVariants as why
+use Rattle.core_commit.specs.declared.join_run.WhyDropped.{WhyDropped}
+use Rattle.core_commit.specs.declared.join_run.WhyDropped.TheVariants as why
 use Rattle.schedule.specs.Dropping.{HasDropCause}
 use Rattle.schedule.specs.Turns.{Turns}
 

@@ -1,5 +1,6 @@
 -- Whose turn is next, as a script's order and its lines say, and runs of such turns.
-use Rattle.std.specs.Prelude.{◌≡◌, ℕ, zero, suc, ◌+◌, ◌≤◌, List, [], ◌∷◌, ◌++◌, length, Bool, false, ◌||◌, if◌then◌else◌, Option, Some, None, is_some, nat_lt, slice_get, ⊤}
+use Rattle.std.specs.Prelude.{◌≡◌, ℕ, zero, suc, ◌+◌, ◌≤◌, List, [], ◌∷◌, ◌++◌, length, Bool, false, ◌||◌}
+use Rattle.std.specs.Prelude.{if◌then◌else◌, Option, Some, None, is_some, nat_lt, slice_get, ⊤}
 use Rattle.std.specs.List.{list_any}
 use Rattle.bank_trait.specs.Disk.{Disk}
 use Rattle.core_state.specs.JournalRoom.{Journal}

@@ -1,5 +1,6 @@
 -- What calls that take turns have used of a pool's space since its opening, and why one found none.
-use Rattle.std.specs.Prelude.{◌≡◌, ℕ, ◌+◌, ◌≤◌, List, [], length, drop, map, flat_map, sum, Some, slice_get, Contains, false}
+use Rattle.std.specs.Prelude.{◌≡◌, ℕ, ◌+◌, ◌≤◌, List, [], length, drop, map, flat_map, sum, Some, slice_get, Contains}
+use Rattle.std.specs.Prelude.{false}
 use Rattle.width_map.specs.Births.{first_width, NoneAbove}
 use Rattle.range_locks.specs.declared.hold.Hold.{Hold}
 use Rattle.range_locks.specs.declared.hold.HoldKind.TheVariants.{Shared}
@@ -14,7 +15,8 @@ use Rattle.client_script.specs.declared.call.ScriptCall.{ScriptCall}
 use Rattle.client_script.specs.Lines.{fill_bytes}
 use Rattle.client_script.specs.Script.{Placed, Script, calls_of}
 use Rattle.core_turns.specs.Core.{Core}
-use Rattle.journal_law.specs.NoSpace.{births_told, has_ended, length_put, lengths_of, largest_size, width_told, NoSpaceIsCaused}
+use Rattle.journal_law.specs.NoSpace.{births_told, has_ended, length_put, lengths_of, largest_size, width_told}
+use Rattle.journal_law.specs.NoSpace.{NoSpaceIsCaused}
 use Rattle.schedule.specs.declared.client.Client.{Client}
 use Rattle.schedule.specs.Numbered.{IsNumbered}
 

@@ -18,13 +18,13 @@ use Rattle.core_open.specs.Holds.{HoldsImage, shape_of}
 use Rattle.core_open.specs.Opens.{IsWithinBelow, RenewsChoice, WritesInOrder}
 use Rattle.core_open.specs.Regions.{IsOnBelow}
 use Rattle.client_script.specs.Script.{Script, asked_by, handed_by}
-use Rattle.open_pool.specs.Opening.{MayBegin}
+use Rattle.core_open.specs.Opening.{MayBegin}
 use Rattle.core_turns.specs.Core.{CoreState, HasBankOf}
 use Rattle.journal_law.specs.Caused.{HasTooManyIds}
 use Rattle.journal_law.specs.Moments.{KeepsLast}
 use Rattle.journal_law.specs.NoSpace.{NoSpaceIsCaused}
 use Rattle.journal_law.specs.FirstGroup.{BeginsAfter}
-use Rattle.open_pool.specs.Pool.{first_item}
+use Rattle.core_open.specs.Pool.{first_item}
 use Rattle.schedule.specs.declared.whole_run.Ran.{Ran}
 use Rattle.schedule.specs.Caused.{AnswersAreCaused}
 use Rattle.schedule.specs.Coming.{AttachesNone}

@@ -5,7 +5,8 @@ ghost use Rattle.client_script.specs.Lines.{fill_bytes};
 ghost use Rattle.core_turns.specs.Putting.{IsFillable};
 ghost use Rattle.core_turns.specs.Getting.{IsSolvable};
 ghost use Rattle.schedule.specs.declared.ahead.Ahead.TheVariants.{Fill, Solve};
-ghost use Rattle.schedule.specs.Ahead.{IsAheadFor, IsComputed, IsMadeUpOf, IsReadyFor, IsReadyWith, IsSolvedOf, block_in, for_call, solved_in};
+ghost use Rattle.schedule.specs.Ahead.{IsAheadFor, IsComputed, IsMadeUpOf, IsReadyFor, IsReadyWith, IsSolvedOf};
+ghost use Rattle.schedule.specs.Ahead.{block_in, for_call, solved_in};
 
 use client_script::ScriptCall;
 use core_turns::{MadeUp, SolvedFrom, ToFill, ToSolve};

@@ -1,5 +1,6 @@
 // The calls of a script, turn by turn.
-ghost use Rattle.std.specs.Prelude.{◌≡◌, ◌+◌, ◌*◌, ◌<◌, ◌≤◌, ℕ, List, All, IfOk, OnOk, OnErr, Some, [], length, slice_get, true};
+ghost use Rattle.std.specs.Prelude.{◌≡◌, ◌+◌, ◌*◌, ◌<◌, ◌≤◌, ℕ, List, All, IfOk, OnOk, OnErr, Some, [], length};
+ghost use Rattle.std.specs.Prelude.{slice_get, true};
 ghost use Rattle.core_state.specs.declared.item.Entry.{Entry as EntryOf};
 ghost use Rattle.core_state.specs.Journal.{CallsAreRight, IsComplete};
 ghost use Rattle.core_state.specs.Legal.{CallAt};
@@ -12,7 +13,8 @@ ghost use Rattle.schedule.specs.Ahead.{IsReadyFor};
 ghost use Rattle.schedule.specs.InTurn.{Cursor, InOrder, InRest, InRound, IsCallOfScript, has_left_at};
 ghost use Rattle.schedule.specs.Live.{replay_in, turns_in};
 ghost use Rattle.schedule.specs.Playing.{CarriesOut, HasPlayed, HaveHadTurns, HasRunOutOfTurns, IsReady};
-ghost use Rattle.schedule.specs.Replaying.{AreIdle, BeginsOne, HasComeRound, HasTurn, HaveBegun, IsAtRest, blank_clients};
+ghost use Rattle.schedule.specs.Replaying.{AreIdle, BeginsOne, HasComeRound, HasTurn, HaveBegun, IsAtRest};
+ghost use Rattle.schedule.specs.Replaying.{blank_clients};
 
 use crate::ahead::Ready;
 use crate::live::{Carried, Live};

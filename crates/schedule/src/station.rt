@@ -1,5 +1,6 @@
 // A turn of one client.
-ghost use Rattle.std.specs.Prelude.{◌≡◌, ◌↔◌, ◌+◌, OnErr, OnOk, is_some, ◌≤◌, ◌<◌, ◌-◌, ℕ, IsSome, IsTrue, None, Option as OptionOf, Some, length, slice_get};
+ghost use Rattle.std.specs.Prelude.{◌≡◌, ◌↔◌, ◌+◌, OnErr, OnOk, is_some, ◌≤◌, ◌<◌, ◌-◌, ℕ, IsSome, IsTrue, None};
+ghost use Rattle.std.specs.Prelude.{Option as OptionOf, Some, length, slice_get};
 ghost use Rattle.bank_trait.specs.Disk.{Disk, Lawful};
 ghost use Rattle.client_script.specs.declared.call.ScriptCall.{ScriptCall as CallOf};
 ghost use Rattle.client_script.specs.Script.{IsAllowed};
@@ -9,7 +10,9 @@ ghost use Rattle.core_turns.specs.Steps.{turn_with};
 ghost use Rattle.schedule.specs.declared.client.UnderWay.{UnderWay as UnderWayOf};
 ghost use Rattle.schedule.specs.Playing.{MakesRoom, UsesRoom, owed, taken_for};
 ghost use Rattle.schedule.specs.Ahead.{IsReadyFor, IsReadyWith};
-ghost use Rattle.schedule.specs.Turned.{GoesOnBy, HasDeviceFor, HasDeviceForTurn, HasDeviceUnder, MayGoOn, Turned, WorkGoesOn, entry_for, group_by, group_with, listed_on, listed_with, station_of};
+ghost use Rattle.schedule.specs.Turned.{GoesOnBy, HasDeviceFor, HasDeviceForTurn, HasDeviceUnder, MayGoOn, Turned};
+ghost use Rattle.schedule.specs.Turned.{WorkGoesOn, entry_for, group_by, group_with, listed_on, listed_with};
+ghost use Rattle.schedule.specs.Turned.{station_of};
 ghost use Rattle.schedule.specs.Works.{begun_at, commit_in};
 
 use crate::ahead::Ready;

@@ -3,7 +3,7 @@ ghost use Rattle.std.specs.Prelude.{◌≡◌, ◌⊎◌, ◌≤◌, IfSome, tru
 ghost use Rattle.bank_trait.specs.Disk.{Disk};
 ghost use Rattle.reconstruct.specs.Rows.{sectors_for};
 ghost use Rattle.core_blocks.specs.Blocks.{IsUnderWay};
-ghost use Rattle.reflow_band.specs.Band.{IsFrontOf};
+ghost use Rattle.shadow_write.specs.Band.{IsFrontOf};
 ghost use Rattle.core_client.specs.Pool.{IsInPool};
 ghost use Rattle.client_script.specs.Lines.{fill_bytes};
 ghost use Rattle.client_script.specs.Script.{IsAllowed};
@@ -14,7 +14,9 @@ ghost use Rattle.core_turns.specs.Putting.{IsFillable, IsPutOf, to_fill_of};
 ghost use Rattle.core_turns.specs.Steps.{turn_with};
 ghost use Rattle.core_turns.specs.UnderWay.{TurnGoesOn};
 ghost use Rattle.schedule.specs.Ahead.{IsMadeUpOf, IsReadyWith, IsSolvedOf};
-ghost use Rattle.schedule.specs.Turned.{BeginsCall, GoesOnBy, HasDeviceFor, HasDeviceForTurn, HasTableOf, IsFilledIn, IsOfPool, MayGoOn, PutGoesOn, ReadGoesOn, WorkGoesOn, WritesOn, attach_turn, copy_turn, put_turn, read_turn, sync_turn};
+ghost use Rattle.schedule.specs.Turned.{BeginsCall, GoesOnBy, HasDeviceFor, HasDeviceForTurn, HasTableOf, IsFilledIn};
+ghost use Rattle.schedule.specs.Turned.{IsOfPool, MayGoOn, PutGoesOn, ReadGoesOn, WorkGoesOn, WritesOn, attach_turn};
+ghost use Rattle.schedule.specs.Turned.{copy_turn, put_turn, read_turn, sync_turn};
 
 use crate::ahead::Ready;
 use crate::client::Work;

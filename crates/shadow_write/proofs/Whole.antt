@@ -1,5 +1,6 @@
 -- From the writes of a column to those of a row, and of a block.
-use Rattle.std.proofs.Common.{◌≡◌, ◌⊎◌, ℕ, ◌<◌, ◌≤◌, ◌+◌, ◌*◌, ◌^◌, zero, suc, List, ◌++◌, refl, sym, ap, ◌∙◌, subst, arith, inl, inr, ⊎_elim, append_assoc, add-one}
+use Rattle.std.proofs.Common.{◌≡◌, ◌⊎◌, ℕ, ◌<◌, ◌≤◌, ◌+◌, ◌*◌, ◌^◌, zero, suc, List, ◌++◌, refl, sym, ap, ◌∙◌, subst}
+use Rattle.std.proofs.Common.{arith, inl, inr, ⊎_elim, append_assoc, add-one}
 use Rattle.std.specs.Prelude.{Contains}
 use Rattle.std.proofs.lemmas.Bool.{cases_lt}
 use Rattle.std.proofs.lemmas.List.Elements.{Contains-append_cases, Contains-append_left, Contains-append_right}
@@ -15,10 +16,12 @@ use Rattle.std.proofs.Math.Nat.{mul-le-mul}
 use Rattle.std.proofs.lemmas.Bool.Decides.{nat_tests}
 use Rattle.row_layout.specs.Standing.{IsWithinLimits}
 use Rattle.row_layout.proofs.Counts.{rows_few, left_over_few}
-use Rattle.row_layout.specs.Layout.{Layout, left_over, content_columns, rows_of, columns_in, end_of, sector_of, IsColumn}
+use Rattle.row_layout.specs.Layout.{Layout, left_over, content_columns, rows_of, columns_in, end_of, sector_of}
+use Rattle.row_layout.specs.Layout.{IsColumn}
 use Rattle.shadow_write.specs.declared.write.Write.{Write}
 use Rattle.shadow_write.specs.Required.{NeedsScratch, NeedsNew, IsRequiredPlace, IsFrontIn}
-use Rattle.shadow_write.specs.Writes.{column_writes, row_writes, writes_of_rows, writes_of, write_at, AreRequired, LeaveNoneOut}
+use Rattle.shadow_write.specs.Writes.{column_writes, row_writes, writes_of_rows, writes_of, write_at, AreRequired}
+use Rattle.shadow_write.specs.Writes.{LeaveNoneOut}
 use Rattle.shadow_write.proofs.Required.{some_is_required, only_required, all_required, column_is}
 
 -- The sectors of a block are numbers that go on fitting.

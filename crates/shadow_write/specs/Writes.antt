@@ -1,5 +1,6 @@
 -- The writes of a block, in their order.
-use Rattle.std.specs.Prelude.{◌≡◌, ℕ, zero, suc, ◌+◌, List, [], ◌∷◌, ◌++◌, Bool, true, false, ◌&&◌, ◌==◌, if◌then◌else◌, nat_lt, Contains}
+use Rattle.std.specs.Prelude.{◌≡◌, ℕ, zero, suc, ◌+◌, List, [], ◌∷◌, ◌++◌, Bool, true, false, ◌&&◌, ◌==◌, if◌then◌else◌}
+use Rattle.std.specs.Prelude.{nat_lt, Contains}
 use Rattle.width_map.specs.declared.position.Place.{Place}
 use Rattle.width_map.specs.Place.{first_data_sector}
 use Rattle.reflow_mark.specs.declared.reflow.State.{State}

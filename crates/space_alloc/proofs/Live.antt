@@ -1,5 +1,6 @@
 -- The live entries of a list, and the count of the dead ones, as one entry changes.
-use Rattle.std.proofs.Common.{◌≡◌, ℕ, suc, ◌<◌, ◌≤◌, ◌+◌, List, [], ◌∷◌, ◌++◌, Bool, true, false, length, get_or, set, take, drop, refl, sym, ◌∙◌, ap, subst, zero-add, arith, length-append}
+use Rattle.std.proofs.Common.{◌≡◌, ℕ, suc, ◌<◌, ◌≤◌, ◌+◌, List, [], ◌∷◌, ◌++◌, Bool, true, false, length, get_or, set}
+use Rattle.std.proofs.Common.{take, drop, refl, sym, ◌∙◌, ap, subst, zero-add, arith, length-append}
 use Rattle.std.specs.Prelude.{◌≢◌, Some, All, Contains, cond, filter, slice_get}
 use Rattle.std.proofs.lemmas.Bool.Decides.{nat_tests}
 use Rattle.std.proofs.lemmas.List.{length-set, set_split, take-append-drop}

@@ -1,5 +1,6 @@
 -- A walk over free runs and holds, one look further.
-use Rattle.std.proofs.Common.{◌≡◌, ℕ, ◌+◌, ◌-◌, ◌*◌, ◌<◌, ◌≤◌, List, length, take, get_or, max, refl, sym, ◌∙◌, ap, subst, arith, inl, inr, ⊎_elim, length-take}
+use Rattle.std.proofs.Common.{◌≡◌, ℕ, ◌+◌, ◌-◌, ◌*◌, ◌<◌, ◌≤◌, List, length, take, get_or, max, refl, sym, ◌∙◌, ap}
+use Rattle.std.proofs.Common.{subst, arith, inl, inr, ⊎_elim, length-take}
 use Rattle.std.specs.Prelude.{Some, None, Option, All, AllPairs, Contains}
 use Rattle.std.specs.Option.{unwrap_or}
 use Rattle.std.proofs.lemmas.Bool.{cases_lt}
@@ -12,7 +13,8 @@ use Rattle.range_locks.specs.Order.{EndsBefore, IsInOrder}
 use Rattle.range_locks.proofs.Ordered.{order_precedes}
 use Rattle.range_locks.proofs.Searching.{precedes_itself}
 use Rattle.space_alloc.specs.declared.walk.Walk.{Walk}
-use Rattle.space_alloc.specs.Fit.{HasBegins, HasNoRoom, HasWalked, IsByStart, IsHead, IsHindered, IsHinderedBy, IsLowest, IsRoom, IsRunTo, IsSorted, Spares, first_run, steps_to}
+use Rattle.space_alloc.specs.Fit.{HasBegins, HasNoRoom, HasWalked, IsByStart, IsHead, IsHindered, IsHinderedBy}
+use Rattle.space_alloc.specs.Fit.{IsLowest, IsRoom, IsRunTo, IsSorted, Spares, first_run, steps_to}
 use Rattle.space_alloc.proofs.Counting.{looked_few, run_to}
 use Rattle.space_alloc.proofs.Flipping.{rising_weakly}
 

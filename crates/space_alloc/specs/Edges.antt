@@ -1,5 +1,6 @@
 -- The sectors at which runs in use begin and end.
-use Rattle.std.specs.Prelude.{◌≡◌, ℕ, ◌+◌, ◌*◌, ◌%◌, ◌<◌, ◌≤◌, List, [], ◌∷◌, AllPairs, count_by, nat_le, length, vec_len, Vec}
+use Rattle.std.specs.Prelude.{◌≡◌, ℕ, ◌+◌, ◌*◌, ◌%◌, ◌<◌, ◌≤◌, List, [], ◌∷◌, AllPairs, count_by, nat_le, length}
+use Rattle.std.specs.Prelude.{vec_len, Vec}
 use Rattle.std.specs.Vec.{vec_capacity}
 use Rattle.std.specs.declared.alloc.Global.{Global}
 use Rattle.space_alloc.specs.declared.entry.Entry.{Entry}

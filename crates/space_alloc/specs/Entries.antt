@@ -1,5 +1,6 @@
 -- The runs in use: those that are taken, by their start and with dead entries between, and those that are held back.
-use Rattle.std.specs.Prelude.{◌≡◌, ◌⊎◌, ◌^◌, ℕ, ◌+◌, ◌<◌, ◌≤◌, List, ◌++◌, All, AllPairs, Bool, nat_lt, filter, get_or, length, map}
+use Rattle.std.specs.Prelude.{◌≡◌, ◌⊎◌, ◌^◌, ℕ, ◌+◌, ◌<◌, ◌≤◌, List, ◌++◌, All, AllPairs, Bool, nat_lt, filter, get_or}
+use Rattle.std.specs.Prelude.{length, map}
 use Rattle.space_alloc.specs.declared.entry.Entry.{Entry}
 use Rattle.space_alloc.specs.declared.gap.Gap.{Gap}
 use Rattle.space_alloc.specs.declared.gap.Gap.TheVariants.{Dead, Between}

@@ -1,5 +1,6 @@
 -- Where a run of sectors fits between the runs in use and the holds, and how far a walk to the lowest place has come.
-use Rattle.std.specs.Prelude.{◌≡◌, ℕ, ◌+◌, ◌-◌, ◌*◌, ◌/◌, ◌%◌, ◌<◌, ◌≤◌, List, Option, Some, None, Result, Ok, Err, Contains, All, AllPairs, cond, get_or, length, nat_lt, take}
+use Rattle.std.specs.Prelude.{◌≡◌, ℕ, ◌+◌, ◌-◌, ◌*◌, ◌/◌, ◌%◌, ◌<◌, ◌≤◌, List, Option, Some, None, Result, Ok, Err}
+use Rattle.std.specs.Prelude.{Contains, All, AllPairs, cond, get_or, length, nat_lt, take}
 use Rattle.range_locks.specs.declared.hold.Hold.{Hold}
 use Rattle.range_locks.specs.declared.hold.HoldKind.TheVariants.{Exclusive}
 use Rattle.range_locks.specs.Holds.{HasSectors, Overlaps, IsFirstIn}

@@ -2,7 +2,8 @@
 //
 // The free runs lie between them: from 0 to the first, from the second to the third, and so on, the last
 // without an end. Where two runs in use meet there is no edge, so neighbouring runs are one.
-ghost use Rattle.std.specs.Prelude.{◌≡◌, ◌+◌, ◌*◌, ◌<◌, ◌≤◌, [], ◌∷◌, All, Some, filter, get_or, length, slice_get, true, vec_len};
+ghost use Rattle.std.specs.Prelude.{◌≡◌, ◌+◌, ◌*◌, ◌<◌, ◌≤◌, [], ◌∷◌, All, Some, filter, get_or, length, slice_get};
+ghost use Rattle.std.specs.Prelude.{true, vec_len};
 ghost use Rattle.std.specs.Vec.{vec_capacity};
 ghost use Rattle.space_alloc.specs.Edges.{HasReleased, IsFlipped, IsRising};
 ghost use Rattle.space_alloc.specs.Entries.{IsEntry, is_left};

@@ -1,7 +1,8 @@
 // The sectors of the pool that are in use.
 ghost use Rattle.std.specs.Prelude.{◌≡◌, ◌≤◌, ◌<◌, [], Contains, IfOk, IfErr, OnOk, OnErr};
 ghost use Rattle.space_alloc.specs.Fit.{refusal_of};
-ghost use Rattle.space_alloc.specs.Space.{IsFreeRun, IsFirstFit, IsTaking, IsDropping, IsHolding, IsTakeCause, LooksAtEach, after_group};
+ghost use Rattle.space_alloc.specs.Space.{IsFreeRun, IsFirstFit, IsTaking, IsDropping, IsHolding, IsTakeCause};
+ghost use Rattle.space_alloc.specs.Space.{LooksAtEach, after_group};
 
 use crate::entry::Entry;
 use crate::held::{self, HeldEntry};

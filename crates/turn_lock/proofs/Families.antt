@@ -1,5 +1,6 @@
 -- Seats that change, that are split and that are joined stay one family.
-use Rattle.std.proofs.Common.{◌≡◌, ◌≢◌, ◌⊎◌, inl, inr, ⊎_elim, ℕ, ◌<◌, ◌≤◌, List, [], ◌∷◌, ◌++◌, length, refl, sym, ◌∙◌, ap, subst, arith}
+use Rattle.std.proofs.Common.{◌≡◌, ◌≢◌, ◌⊎◌, inl, inr, ⊎_elim, ℕ, ◌<◌, ◌≤◌, List, [], ◌∷◌, ◌++◌, length, refl, sym, ◌∙◌}
+use Rattle.std.proofs.Common.{ap, subst, arith}
 use Rattle.std.specs.Prelude.{slice_set, Contains}
 use mathlib.Core.Option.{some}
 use lib.ListN.{get_elem?}
@@ -9,7 +10,8 @@ use Rattle.turn_lock.specs.Turn.{itself, At, FitsHistory, Family, IsNamedOnce, I
 use Rattle.turn_lock.specs.declared.view.Event.{Event}
 use Rattle.turn_lock.specs.declared.view.Member.{Member}
 use Rattle.turn_lock.specs.declared.view.View.{View}
-use Rattle.turn_lock.proofs.Lists.{there, none_listed, listed_cases, listed_first, listed_later, at_end, one_there, one_listed}
+use Rattle.turn_lock.proofs.Lists.{there, none_listed, listed_cases, listed_first, listed_later, at_end, one_there}
+use Rattle.turn_lock.proofs.Lists.{one_listed}
 
 module _ {E : Type 0} where
   -- who a seat was before it changed

@@ -1,5 +1,6 @@
 -- The step that ends the turn.
-use Rattle.std.proofs.Common.{◌≡◌, ◌≢◌, inl, inr, ⊎_elim, ℕ, ◌+◌, ◌*◌, ◌^◌, ◌≤◌, List, [], ◌∷◌, ◌++◌, length, true, false, Some, None, refl, sym, ◌∙◌, ap, subst, arith}
+use Rattle.std.proofs.Common.{◌≡◌, ◌≢◌, inl, inr, ⊎_elim, ℕ, ◌+◌, ◌*◌, ◌^◌, ◌≤◌, List, [], ◌∷◌, ◌++◌, length, true}
+use Rattle.std.proofs.Common.{false, Some, None, refl, sym, ◌∙◌, ap, subst, arith}
 use Rattle.std.specs.Prelude.{slice_index, slice_set, Contains, Option as OptionOf}
 use mathlib.Core.Option.{Option, none, some, some-injective, some-ne-none}
 use lib.ListN.{get_elem?}
@@ -7,7 +8,8 @@ use Rattle.std.proofs.lemmas.List.{append-nil}
 use Rattle.std.proofs.lemmas.List.Elements.{Contains-append_cases}
 use Rattle.atomic_table.proofs.Lists.{at_set}
 use Rattle.atomic_table.specs.Table.{Me, Act, gives, Valid, stepped, Allows, Final, Seen, carried_after}
-use Rattle.turn_lock.specs.Turn.{TurnState, at_home, away, over, Rule, Gave, FitsHistory, Family, IsNamedOnce, itself, telling_any, gave, seen_of, name_of, told_after, told, IsLive, ending, EndedAll}
+use Rattle.turn_lock.specs.Turn.{TurnState, at_home, away, over, Rule, Gave, FitsHistory, Family, IsNamedOnce, itself}
+use Rattle.turn_lock.specs.Turn.{telling_any, gave, seen_of, name_of, told_after, told, IsLive, ending, EndedAll}
 use Rattle.turn_lock.specs.declared.view.Event.{Event}
 use Rattle.turn_lock.specs.declared.view.Member.{Member}
 use Rattle.turn_lock.specs.declared.view.View.{View}

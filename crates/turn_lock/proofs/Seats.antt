@@ -1,5 +1,6 @@
 -- A seat that is split from another, and one that is joined into another.
-use Rattle.std.proofs.Common.{◌≡◌, ◌≢◌, ◌⊎◌, inl, inr, ⊎_elim, ℕ, ◌+◌, ◌<◌, List, [], ◌∷◌, ◌++◌, true, false, refl, sym, ◌∙◌, ap, subst, arith}
+use Rattle.std.proofs.Common.{◌≡◌, ◌≢◌, ◌⊎◌, inl, inr, ⊎_elim, ℕ, ◌+◌, ◌<◌, List, [], ◌∷◌, ◌++◌, true, false, refl, sym}
+use Rattle.std.proofs.Common.{◌∙◌, ap, subst, arith}
 use Rattle.std.specs.Prelude.{slice_set, Contains}
 use mathlib.Core.List.{IsPrefix}
 use mathlib.Core.Option.{some}
@@ -9,11 +10,14 @@ use Rattle.std.proofs.lemmas.List.{set-set}
 use Rattle.std.proofs.lemmas.List.Elements.{Contains-append_left, Contains-append_right, Contains-append_cases}
 use Rattle.atomic_table.proofs.Lists.{set_here, set_else, at_set, at_longer}
 use Rattle.atomic_table.specs.Table.{Splits, Joins}
-use Rattle.turn_lock.specs.Turn.{TurnState, at_home, away, over, Rule, IsOver, FitsHistory, Family, At, IsNamedOnce, itself, seeing, parting, part_of, parts_of, kept_at_split, made_at_split, joined, spent, seen_of, longer}
+use Rattle.turn_lock.specs.Turn.{TurnState, at_home, away, over, Rule, IsOver, FitsHistory, Family, At, IsNamedOnce}
+use Rattle.turn_lock.specs.Turn.{itself, seeing, parting, part_of, parts_of, kept_at_split, made_at_split, joined}
+use Rattle.turn_lock.specs.Turn.{spent, seen_of, longer}
 use Rattle.turn_lock.specs.declared.view.Event.{Event}
 use Rattle.turn_lock.specs.declared.view.Member.{Member}
 use Rattle.turn_lock.specs.declared.view.View.{View}
-use Rattle.turn_lock.proofs.Lists.{there, not_both, none_listed, listed_cases, listed_first, listed_later, at_end, one_there}
+use Rattle.turn_lock.proofs.Lists.{there, not_both, none_listed, listed_cases, listed_first, listed_later, at_end}
+use Rattle.turn_lock.proofs.Lists.{one_there}
 use Rattle.turn_lock.proofs.Events.{none_by}
 use Rattle.turn_lock.proofs.Histories.{fits_longer, longer_whole}
 use Rattle.turn_lock.proofs.Families.{family_set, family_push}

@@ -1,10 +1,13 @@
 -- A seat as callers see it stays a seat.
-use Rattle.std.proofs.Common.{◌≡◌, ◌⊎◌, ⊎_elim, ℕ, ◌+◌, ◌^◌, ◌≤◌, max, List, [], ◌∷◌, ◌++◌, length, length-append, true, false, Some, None, refl, sym, ◌∙◌, ap, subst, arith}
+use Rattle.std.proofs.Common.{◌≡◌, ◌⊎◌, ⊎_elim, ℕ, ◌+◌, ◌^◌, ◌≤◌, max, List, [], ◌∷◌, ◌++◌, length, length-append, true}
+use Rattle.std.proofs.Common.{false, Some, None, refl, sym, ◌∙◌, ap, subst, arith}
 use Rattle.std.specs.Prelude.{Option as OptionOf, Contains}
 use Rattle.std.proofs.lemmas.List.Elements.{Contains-append_cases}
 use Rattle.atomic_table.specs.Table.{Me, rest}
 use Rattle.atomic_table.specs.Seated.{TableId}
-use Rattle.turn_lock.specs.Turn.{IsLive, StandsFor, TookTurn, TookLast, FoundFull, Gave, EndedAll, KnowsHistory, AreAll, entries, seen_of, itself, seeing, telling, telling_any, parting, took, gave, kept_at_split, joined, longer}
+use Rattle.turn_lock.specs.Turn.{IsLive, StandsFor, TookTurn, TookLast, FoundFull, Gave, EndedAll, KnowsHistory, AreAll}
+use Rattle.turn_lock.specs.Turn.{entries, seen_of, itself, seeing, telling, telling_any, parting, took, gave}
+use Rattle.turn_lock.specs.Turn.{kept_at_split, joined, longer}
 use Rattle.turn_lock.specs.Seats.{Sitting, sitting, first_of, others_of, everyone, IsSeat, Ended}
 use Rattle.turn_lock.specs.declared.view.Event.{Event}
 use Rattle.turn_lock.specs.declared.view.Member.{Member}

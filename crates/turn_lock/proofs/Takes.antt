@@ -1,5 +1,6 @@
 -- The steps that take the turn, and that look how long the history is.
-use Rattle.std.proofs.Common.{◌≡◌, ◌≢◌, inl, ⊎_elim, ℕ, ◌+◌, ◌*◌, ◌^◌, ◌/◌, ◌%◌, ◌≤◌, List, [], ◌∷◌, length, true, false, refl, sym, ◌∙◌, ap, subst, arith}
+use Rattle.std.proofs.Common.{◌≡◌, ◌≢◌, inl, ⊎_elim, ℕ, ◌+◌, ◌*◌, ◌^◌, ◌/◌, ◌%◌, ◌≤◌, List, [], ◌∷◌, length, true}
+use Rattle.std.proofs.Common.{false, refl, sym, ◌∙◌, ap, subst, arith}
 use Rattle.std.specs.Prelude.{◌==◌, slice_index, slice_set, Contains}
 use prog.Atomic.{either}
 use mathlib.Core.Option.{Option, none, some}
@@ -9,7 +10,8 @@ use Rattle.std.proofs.lemmas.Bool.Decides.{nat_tests}
 use Rattle.std.proofs.lemmas.List.{append-nil}
 use Rattle.atomic_table.proofs.Lists.{set_again, set_here, set_else, at_set}
 use Rattle.atomic_table.specs.Table.{State, Me, Act, keeps, takes, Valid, stepped, Allows, carried_after}
-use Rattle.turn_lock.specs.Turn.{TurnState, at_home, away, over, Rule, IsOver, Took, Looked, Family, itself, seeing, looked, took, seen_of}
+use Rattle.turn_lock.specs.Turn.{TurnState, at_home, away, over, Rule, IsOver, Took, Looked, Family, itself, seeing}
+use Rattle.turn_lock.specs.Turn.{looked, took, seen_of}
 use Rattle.turn_lock.specs.declared.view.Event.{Event}
 use Rattle.turn_lock.specs.declared.view.Member.{Member}
 use Rattle.turn_lock.specs.declared.view.View.{View}

@@ -1,8 +1,10 @@
 -- What callers see of a lock and of a seat.
-use Rattle.std.specs.Prelude.{◌≡◌, ℕ, ◌<◌, ◌≤◌, ◌^◌, List, [], ◌∷◌, ◌++◌, length, Bool, true, false, Option, None, Contains}
+use Rattle.std.specs.Prelude.{◌≡◌, ℕ, ◌<◌, ◌≤◌, ◌^◌, List, [], ◌∷◌, ◌++◌, length, Bool, true, false, Option, None}
+use Rattle.std.specs.Prelude.{Contains}
 use Rattle.atomic_table.specs.Seated.{TableId}
 use Rattle.atomic_table.specs.Table.{Me}
-use Rattle.turn_lock.specs.Turn.{KnowsHistory, AreAll, IsLive, entries, seen_of, seeing, telling, parting, part_of, longer}
+use Rattle.turn_lock.specs.Turn.{KnowsHistory, AreAll, IsLive, entries, seen_of, seeing, telling, parting, part_of}
+use Rattle.turn_lock.specs.Turn.{longer}
 use Rattle.turn_lock.specs.declared.view.Event.{Event}
 use Rattle.turn_lock.specs.declared.view.Member.{Member}
 use Rattle.turn_lock.specs.declared.view.View.{View}

@@ -1,6 +1,9 @@
 // The steps on the table, which know what a seat knows.
-ghost use Rattle.std.specs.Prelude.{◌≡◌, ◌*◌, ◌%◌, ◌<◌, ◌≤◌, ◌^◌, ◌+◌, [], ◌∷◌, false, true, Some, None, IfOk, IfErr, length};
-ghost use Rattle.turn_lock.specs.Turn.{Took, Looked, Gave, KnowsHistory, StandsIf, StandsFor, IsLive, TookTurn, TookLast, EndedAll, FoundFull, kept_at_split, made_at_split, joined, entries, told, seen_of};
+ghost use Rattle.std.specs.Prelude.{◌≡◌, ◌*◌, ◌%◌, ◌<◌, ◌≤◌, ◌^◌, ◌+◌, [], ◌∷◌, false, true, Some, None, IfOk, IfErr};
+ghost use Rattle.std.specs.Prelude.{length};
+ghost use Rattle.turn_lock.specs.Turn.{Took, Looked, Gave, KnowsHistory, StandsIf, StandsFor, IsLive, TookTurn};
+ghost use Rattle.turn_lock.specs.Turn.{TookLast, EndedAll, FoundFull, kept_at_split, made_at_split, joined, entries};
+ghost use Rattle.turn_lock.specs.Turn.{told, seen_of};
 
 use crate::rule::{Based, Both, Ends, Gives, Law, Looks, Parts, Stood, Takes, Told};
 use crate::view::View;

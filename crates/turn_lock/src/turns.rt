@@ -1,7 +1,9 @@
 // The turn lock.
-ghost use Rattle.std.specs.Prelude.{◌≡◌, ◌*◌, ◌<◌, ◌≤◌, ◌^◌, ◌+◌, [], ◌∷◌, ◌++◌, false, true, Some, IfOk, IfErr, length};
+ghost use Rattle.std.specs.Prelude.{◌≡◌, ◌*◌, ◌<◌, ◌≤◌, ◌^◌, ◌+◌, [], ◌∷◌, ◌++◌, false, true, Some, IfOk, IfErr};
+ghost use Rattle.std.specs.Prelude.{length};
 ghost use Rattle.turn_lock.specs.Turn.{KnowsHistory, entries};
-ghost use Rattle.turn_lock.specs.Seats.{first_seat, everyone, having_seen, with_turn, after_entry, without_turn, having_split, split_from, with_joined, Ended};
+ghost use Rattle.turn_lock.specs.Seats.{first_seat, everyone, having_seen, with_turn, after_entry, without_turn};
+ghost use Rattle.turn_lock.specs.Seats.{having_split, split_from, with_joined, Ended};
 
 use crate::rule::{Law, Stood};
 use crate::seat::{Held, NewRefused, Seat};

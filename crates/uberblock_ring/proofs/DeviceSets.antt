@@ -1,11 +1,13 @@
 -- Sets of devices: what a set with one more device has, and how many devices there are.
-use Rattle.std.proofs.Common.{◌≡◌, ◌≢◌, ℕ, zero, suc, ◌+◌, ◌*◌, ◌%◌, ◌^◌, ◌<◌, ◌≤◌, Bool, true, false, cond, eqb, refl, sym, ◌∙◌, ap, subst, arith, ⊎_elim}
+use Rattle.std.proofs.Common.{◌≡◌, ◌≢◌, ℕ, zero, suc, ◌+◌, ◌-◌, ◌*◌, ◌%◌, ◌^◌, ◌<◌, ◌≤◌, Bool, true, false, cond, eqb, refl}
+use Rattle.std.proofs.Common.{sym, ◌∙◌, ap, subst, arith, ⊎_elim}
 use Rattle.std.specs.Prelude.{count_ones, max}
 use Rattle.std.specs.Int.{bit_at, trailing_zeros, w64}
 use Rattle.std.proofs.Math.Nat.{mod-eq_of_lt, mod-lt, one-le-pow}
 use Rattle.std.proofs.lemmas.Bool.{cases_eq, cases_lt, eqb-true, eq-eqb}
 use Rattle.std.proofs.lemmas.Nat.{mod-pow-add, ones_cat, ones_le_self, or_lt, pow_below, zero_from_ones}
-use Rattle.std.proofs.lemmas.Nat.Bits.{bit_at-lt, bit_at-trailing_zeros, bit_at_above, bit_at_or, bit_at-pow_other, bit_at-pow_same, same_from_bits}
+use Rattle.std.proofs.lemmas.Nat.Bits.{bit_at-lt, bit_at-trailing_zeros, bit_at_above, bit_at_or, bit_at-pow_other}
+use Rattle.std.proofs.lemmas.Nat.Bits.{bit_at-pow_same, same_from_bits}
 use Rattle.uberblock_ring.specs.Devices.{count_below, count_of, has_device, IsWithin, with_device}
 
 -- A device is in the set where its bit is one.
@@ -166,3 +168,9 @@ pub lowest_first : (devices : ℕ) → (devices ≡ 0 → ⊥) → devices < 2 ^
     → has_device devices other ≡ false
 lowest_first devices some below other before =
     ap (λ (bit : ℕ). eqb bit 1) ((bit_at-trailing_zeros w64 devices (omega (arith, some)) below).2 other before)
+
+-- A set below a width has as many devices as below it.
+pub count_within : (out width : ℕ) → out < 2 ^ width → width ≤ 64 → count_of out ≡ count_below out width
+unfolding count_of
+count_within out width below narrow =
+    ap (count_below out) {x = 64} {y = width + (64 - width)} (omega (arith, narrow)) ∙ count_above out width (64 - width) below

@@ -1,5 +1,6 @@
 -- What the fields of an uberblock's bytes tell.
-use Rattle.std.proofs.Common.{◌≡◌, ℕ, ◌-◌, ◌*◌, ◌^◌, ◌<◌, ◌≤◌, List, [], ◌∷◌, ◌++◌, length, take, drop, replicate, sym, ◌∙◌, ap, arith, append_assoc}
+use Rattle.std.proofs.Common.{◌≡◌, ℕ, ◌-◌, ◌*◌, ◌^◌, ◌<◌, ◌≤◌, List, [], ◌∷◌, ◌++◌, length, take, drop, replicate, sym}
+use Rattle.std.proofs.Common.{◌∙◌, ap, arith, append_assoc}
 use Rattle.std.specs.Prelude.{flat_map}
 use Rattle.std.proofs.lemmas.List.{drop_at, take_at, take-take}
 use Rattle.std.proofs.lemmas.List.Elements.{All-head, All-tail}
@@ -14,7 +15,8 @@ use Rattle.uberblock_ring.specs.declared.header.Header.{Header}
 use Rattle.uberblock_ring.specs.Header.{FitBirths, FitsHeader, header_after, header_of, uber_with}
 use Rattle.uberblock_ring.specs.Uberblock.{birth_bytes, encoded, fields_bytes, head_bytes, magic, Uber, version}
 use Rattle.uberblock_ring.specs.Valid.{IsRightUber}
-use Rattle.uberblock_ring.proofs.OneSpelling.{births_fit, births_tell, FitFields, from_fits, length-births, length-fields, mark_fits, out_fits, word_fits}
+use Rattle.uberblock_ring.proofs.OneSpelling.{births_fit, births_tell, FitFields, from_fits, length-births}
+use Rattle.uberblock_ring.proofs.OneSpelling.{length-fields, mark_fits, out_fits, word_fits}
 
 same_header : (one other : Header) → one.pool ≡ other.pool → one.group ≡ other.group → one.parity ≡ other.parity → one.from ≡ other.from
     → one.to ≡ other.to → one.area ≡ other.area → one.rows ≡ other.rows → one.word ≡ other.word → one.out ≡ other.out

@@ -1,5 +1,6 @@
 -- Bytes tell one uberblock at most: its fields are read off from the end of each part.
-use Rattle.std.proofs.Common.{◌≡◌, ℕ, ◌+◌, ◌-◌, ◌*◌, ◌^◌, ◌<◌, ◌≤◌, List, [], ◌∷◌, ◌++◌, length, replicate, refl, sym, ◌∙◌, ap, arith, ⊎_elim, append_assoc, length-append}
+use Rattle.std.proofs.Common.{◌≡◌, ℕ, ◌+◌, ◌-◌, ◌*◌, ◌^◌, ◌<◌, ◌≤◌, List, [], ◌∷◌, ◌++◌, length, replicate, refl, sym}
+use Rattle.std.proofs.Common.{◌∙◌, ap, arith, ⊎_elim, append_assoc, length-append}
 use Rattle.std.specs.Prelude.{flat_map, ⊤}
 use Rattle.std.proofs.Math.Nat.{mul-le-mul_left, pow-le-pow_right}
 use Rattle.sha2.proofs.Facts256.{length-sha256}
@@ -11,8 +12,10 @@ use Rattle.reflow_mark.specs.declared.reflow.State.TheVariants.{None, Valid, Mov
 use Rattle.reflow_mark.specs.declared.reflow.Reflow.{Reflow}
 use Rattle.reflow_mark.specs.Reflow.{IsRightReflow, IsMark, word_of, state_number}
 use Rattle.block_record.specs.Bytes.{be32, be64, IsDigest}
-use Rattle.block_record.proofs.Spelling.{be32_number, be64_number, last32, last64, length-be32, length-be64, split_front, split_last}
-use Rattle.uberblock_ring.specs.Uberblock.{Uber, magic, version, birth_bytes, fields_bytes, head_bytes, encoded, slot_of}
+use Rattle.block_record.proofs.Spelling.{be32_number, be64_number, last32, last64, length-be32, length-be64}
+use Rattle.block_record.proofs.Spelling.{split_front, split_last}
+use Rattle.uberblock_ring.specs.Uberblock.{Uber, magic, version, birth_bytes, fields_bytes, head_bytes, encoded}
+use Rattle.uberblock_ring.specs.Uberblock.{slot_of}
 use Rattle.uberblock_ring.specs.Valid.{IsRightUber, IsValidIn}
 
 -- Births whose numbers fit in their fields.
@@ -234,5 +237,5 @@ encoded_tells uber other device place right good small low same =
 pub valid_tells : (uber other : Uber) (device place slot spot : ℕ) (bytes : List ℕ) → device < 2 ^ 32 → place < 2 ^ 32
     → IsValidIn uber device slot bytes → IsValidIn other place spot bytes → (uber ≡ other) × (device ≡ place) × (slot ≡ spot)
 valid_tells uber other device place slot spot bytes small low valid good =
-    let both = encoded_tells uber other device place valid.right good.right small low (sym valid.copy ∙ good.copy) in
+    let both = encoded_tells uber other device place valid.right good.right small low (sym valid.bytes_are ∙ good.copy) in
     (both.0, both.1, valid.slot_is ∙ ap (λ (u : Uber). slot_of u.group) both.0 ∙ sym good.slot_is)

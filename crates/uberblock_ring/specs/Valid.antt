@@ -40,7 +40,7 @@ pub record IsPoolShape (parity width rows : ℕ) : Type 0 where
 pub record IsValidIn (uber : Uber) (device slot : ℕ) (bytes : List ℕ) : Type 0 where
   pub right : IsRightUber uber
   pub slot_is : slot ≡ slot_of uber.group
-  pub copy : bytes ≡ encoded uber device
+  pub bytes_are : bytes ≡ encoded uber device
 
 -- They differ in nothing but the out set.
 abbrev pub AreAlike : Uber → Uber → Type 0

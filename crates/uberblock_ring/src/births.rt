@@ -1,5 +1,6 @@
 // The births of an uberblock: how they are read, and when they are right.
-ghost use Rattle.std.specs.Prelude.{◌≡◌, ◌+◌, ◌*◌, ◌<◌, ◌≤◌, ◌↔◌, ◌^◌, All, length, take, flat_map, IfSome, IfNone, IsTrue};
+ghost use Rattle.std.specs.Prelude.{◌≡◌, ◌+◌, ◌*◌, ◌<◌, ◌≤◌, ◌↔◌, ◌^◌, All, length, take, flat_map, IfSome, IfNone};
+ghost use Rattle.std.specs.Prelude.{IsTrue};
 ghost use Rattle.width_map.specs.Births.{first_width, last_width, IsGrowing};
 ghost use Rattle.uberblock_ring.specs.Header.{FitBirths};
 ghost use Rattle.uberblock_ring.specs.Uberblock.{birth_bytes};

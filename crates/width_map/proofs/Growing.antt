@@ -3,7 +3,8 @@ use Rattle.std.proofs.Common.{◌≡◌, ℕ, ◌<◌, ◌≤◌, ◌+◌, List,
 use Rattle.std.specs.Prelude.{nat_le}
 use Rattle.std.proofs.lemmas.Bool.Decides.{nat_tests}
 use Rattle.width_map.specs.declared.birth.Birth.{Birth}
-use Rattle.width_map.specs.Births.{width_from, width_of_birth, last_width_from, last_width, first_width, births_after, NoneAbove, GrowFrom, IsGrowing}
+use Rattle.width_map.specs.Births.{width_from, width_of_birth, last_width_from, last_width, first_width, births_after}
+use Rattle.width_map.specs.Births.{NoneAbove, GrowFrom, IsGrowing}
 
 -- A last entry that is too new says nothing of a birth.
 newer_adds_nothing : (births : List Birth) (width : ℕ) (newer : Birth) (birth : ℕ) → birth < newer.group
@@ -39,3 +40,10 @@ pub has_room : (births : List Birth) → IsGrowing births → 0 < first_width bi
     → length births < 16
 has_room [] grows some narrow = omega arith
 has_room (first ∷ births) grows some narrow = omega (arith, last_is_wider first births grows.1, some, narrow)
+
+-- Births that began before a group began before each later one.
+pub none_above_more : (group more : ℕ) (births : List Birth) → group ≤ more → NoneAbove group births
+    → NoneAbove more births
+none_above_more group more [] low none = none
+none_above_more group more (entry ∷ births) low none =
+    ((let one = none.0 in omega (arith, one, low)), none_above_more group more births low none.1)

@@ -1,6 +1,7 @@
 // The widths that the pool has had.
 ghost use Rattle.std.specs.Prelude.{◌≡◌, ℕ, ◌+◌, ◌<◌, ◌≤◌, ◌^◌, length, SomeIff};
-ghost use Rattle.width_map.specs.Births.{first_births, births_after, width_of_birth, last_width, IsGrowing, NoneAbove, BirthsFit};
+ghost use Rattle.width_map.specs.Births.{first_births, births_after, width_of_birth, last_width, IsGrowing, NoneAbove};
+ghost use Rattle.width_map.specs.Births.{BirthsFit};
 
 use crate::Birth;
 use std::marker::Model;

@@ -6,5 +6,5 @@ use Rattle.attach_ring.proofs.taken.is_taken.Goals as goal
 
 pub returns : goal.returns
 returns c = subst (λ (found : Bool). IsTrue found ↔ IsTakenSlot c.args.slot c.args.bytes.now) (sym c.is_some.ensures)
-    (taken_by c.args.bytes.now c.args.slot c.copy_in_slot.result c.copy_in_slot.ensures.number c.copy_in_slot.ensures.some
-    c.copy_in_slot.ensures.none)
+    (taken_by c.args.bytes.now c.args.slot c.uber_in_slot.result c.uber_in_slot.ensures.number c.uber_in_slot.ensures.some
+    c.uber_in_slot.ensures.none)

@@ -3,7 +3,8 @@ use Rattle.std.proofs.lemmas.Bool.{false≢true}
 use Rattle.block_record.specs.Bytes.{be32}
 use Rattle.block_record.proofs.Entries.{entry_is_read, read_numbers, read_rest}
 use Rattle.block_record.proofs.read.read_entry.Goals as goal
-use Rattle.block_record.proofs.read.read_entry.Goals.{else-is_right-via-then-is_right+else-u32_at-eq0, else-is_right-via-else-is_right}
+use Rattle.block_record.proofs.read.read_entry.Goals.{else-is_right-via-then-is_right+else-u32_at-eq0}
+use Rattle.block_record.proofs.read.read_entry.Goals.{else-is_right-via-else-is_right}
 
 pub returns-then-u32_at-eq0-clause-some : goal.returns-then-u32_at-eq0-clause-some
 returns-then-u32_at-eq0-clause-some c =

@@ -1,5 +1,6 @@
 use Rattle.std.proofs.lemmas.Result.{err_from_is_err_and}
-use Rattle.block_record.proofs.Pages.{bad_is_no_page, bad_once, page_is, padding_here, page_same, refused_is_no_page, refused_there}
+use Rattle.block_record.proofs.Pages.{bad_is_no_page, bad_once, page_is, padding_here, page_same, refused_is_no_page}
+use Rattle.block_record.proofs.Pages.{refused_there}
 use Rattle.block_record.proofs.read.read_index.Goals as goal
 
 pub returns-in_err-entries-clause-reads : goal.returns-in_err-entries-clause-reads

@@ -2,7 +2,9 @@ use Rattle.std.proofs.Common.{◌≡◌, ◌<◌, length, arith}
 use Rattle.std.proofs.lemmas.Bool.Decides.{nat_tests}
 use Rattle.client_script.proofs.Hexes.{wrong_length, two_digits, spelled_all}
 use Rattle.client_script.proofs.hex.hex_bytes.Goals as goal
-use Rattle.client_script.proofs.hex.hex_bytes.Goals.{then-is_empty-via-then-is_empty, then-is_empty-via-else-is_empty+then-text-eq1, then-is_empty-via-else-is_empty+else-text-eq1+then-text}
+use Rattle.client_script.proofs.hex.hex_bytes.Goals.{then-is_empty-via-then-is_empty}
+use Rattle.client_script.proofs.hex.hex_bytes.Goals.{then-is_empty-via-else-is_empty+then-text-eq1}
+use Rattle.client_script.proofs.hex.hex_bytes.Goals.{then-is_empty-via-else-is_empty+else-text-eq1+then-text}
 
 pub returns-then-is_empty : goal.returns-then-is_empty
 returns-then-is_empty c bytes is =

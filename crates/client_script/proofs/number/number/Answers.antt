@@ -6,7 +6,8 @@ use Rattle.client_script.specs.Words.{IsNumber}
 use Rattle.client_script.proofs.Cuts.{if_none}
 use Rattle.client_script.proofs.Numbers.{digits_of_number, number_of_digits, zero_stands_alone, number_is_some}
 use Rattle.client_script.proofs.number.number.Goals as goal
-use Rattle.client_script.proofs.number.number.Goals.{else-first-eq48-via-then-first-eq48+else-not-is_empty, else-first-eq48-via-else-first-eq48}
+use Rattle.client_script.proofs.number.number.Goals.{else-first-eq48-via-then-first-eq48+else-not-is_empty}
+use Rattle.client_script.proofs.number.number.Goals.{else-first-eq48-via-else-first-eq48}
 
 pub returns-in_err-first-clause-none : goal.returns-in_err-first-clause-none
 returns-in_err-first-clause-none c =

@@ -2,7 +2,8 @@ use Rattle.std.proofs.Common.{decimal, arith}
 use Rattle.client_script.proofs.CallWords.{after_id, after_len}
 use Rattle.client_script.proofs.Cuts.{if_none}
 use Rattle.client_script.proofs.words.pattern_call.Goals as goal
-use Rattle.client_script.proofs.words.pattern_call.Goals.{then-len-eq0-via-then-len-eq0, then-len-eq0-via-else-len-eq0+then-len-gt-MOST_BYTES}
+use Rattle.client_script.proofs.words.pattern_call.Goals.{then-len-eq0-via-then-len-eq0}
+use Rattle.client_script.proofs.words.pattern_call.Goals.{then-len-eq0-via-else-len-eq0+then-len-gt-MOST_BYTES}
 
 pub returns-in_err-len-clause-none : goal.returns-in_err-len-clause-none
 returns-in_err-len-clause-none c =

@@ -1,9 +1,9 @@
 use Rattle.std.proofs.Common.{subst, arith}
-use Rattle.core_client.specs.declared.spot.Spot.{Spot}
+use Rattle.core_state.specs.declared.spot.Spot.{Spot}
 use Rattle.core_state.specs.Committing.{point_of}
-use Rattle.core_client.specs.Reading.{given_by, IsGot, IsPassedOrRead}
-use Rattle.core_client.proofs.Below.{below_by_read}
-use Rattle.core_client.proofs.Gotten.{got_by_step, unchanged_by_step, outs_by_step}
+use Rattle.core_state.specs.SpotReads.{given_by, IsGot, IsPassedOrRead}
+use Rattle.core_state.proofs.Below.{below_by_read}
+use Rattle.core_state.proofs.SpotReads.{got_by_step, unchanged_by_step, outs_by_step}
 use Rattle.core_client.proofs.reading.read_column.Goals as goal
 
 pub returns-clause-step : goal.returns-clause-step

@@ -2,7 +2,7 @@ use Rattle.std.proofs.Common.{◌≡◌, inr, ℕ, Ok, Err, refl, ◌∙◌, sym
 use Rattle.std.specs.Prelude.{◌||◌}
 use Rattle.uberblock_ring.specs.Devices.{has_device}
 use Rattle.core_state.specs.Committing.{lost_by}
-use Rattle.core_client.proofs.Outs.{none_lost, one_lost}
+use Rattle.core_state.proofs.Outs.{none_lost, one_lost}
 use Rattle.core_client.proofs.reading.read_spot.Goals as goal
 
 pub returns-in-Ok : goal.returns-in-Ok

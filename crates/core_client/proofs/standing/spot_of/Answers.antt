@@ -2,7 +2,7 @@ use Rattle.std.proofs.Common.{◌≡◌, ◌+◌, ◌<◌, sym, subst}
 use Rattle.width_map.specs.Place.{first_data_sector}
 use Rattle.row_layout.specs.Layout.{end_of, sector_of}
 use Rattle.shadow_write.specs.Required.{IsRequiredPlace}
-use Rattle.core_client.specs.declared.spot.Spot.{Spot}
+use Rattle.core_state.specs.declared.spot.Spot.{Spot}
 use Rattle.core_client.specs.Reading.{spot_of}
 use Rattle.core_client.proofs.Spots.{spot_on_pool, spot_required}
 use Rattle.core_client.proofs.standing.spot_of.Goals as goal

@@ -3,7 +3,7 @@ use Rattle.std.specs.Prelude.{◌||◌}
 use Rattle.bank_trait.specs.Disk.{Wrote}
 use Rattle.uberblock_ring.specs.Devices.{has_device}
 use Rattle.core_state.specs.Committing.{lost_by}
-use Rattle.core_client.proofs.Outs.{none_lost, one_lost}
+use Rattle.core_state.proofs.Outs.{none_lost, one_lost}
 use Rattle.core_client.proofs.writing.write_column.Goals as goal
 
 pub returns-then-is_err : goal.returns-then-is_err

@@ -2,7 +2,7 @@ use Rattle.std.proofs.Common.{◌≡◌, ℕ, sym, subst}
 use Rattle.std.specs.Prelude.{◌||◌}
 use Rattle.uberblock_ring.specs.Devices.{has_device}
 use Rattle.core_state.specs.Committing.{lost_by, point_of}
-use Rattle.core_client.proofs.Outs.{none_lost, one_lost}
+use Rattle.core_state.proofs.Outs.{none_lost, one_lost}
 use Rattle.core_copy.proofs.Calls.{read_failed, read_came_off}
 use Rattle.core_copy.proofs.calling.read_spot.Goals as goal
 

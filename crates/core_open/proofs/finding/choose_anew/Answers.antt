@@ -3,7 +3,7 @@ use Rattle.std.specs.Prelude.{All, Contains}
 use Rattle.uberblock_ring.specs.Devices.{count_below, IsWithin, with_device}
 use Rattle.uberblock_ring.proofs.DeviceSets.{count_most, count_with, within_with}
 use Rattle.core_open.specs.declared.stopped.Stopped.{Stopped}
-use Rattle.core_open.specs.declared.uber_copy.UberCopy.{UberCopy}
+use Rattle.core_open.specs.declared.ring_uber.RingUber.{RingUber}
 use Rattle.core_open.specs.Failing.{HasStopped, HaveFailedSince}
 use Rattle.core_open.proofs.Failures.{since_with}
 use Rattle.core_open.proofs.Givers.{first_given_before}
@@ -12,7 +12,7 @@ use Rattle.core_open.proofs.finding.choose_anew.Goals as goal
 
 pub returns-in-Ok-clause-listed : goal.returns-in-Ok-clause-listed
 returns-in-Ok-clause-listed g c =
-    subst (λ (list : List UberCopy). All (Contains list) c.in-Ok.candidates.copies.items) c.loop-candidates.invariant.copies c.in-Ok.ensures.listed
+    subst (λ (list : List RingUber). All (Contains list) c.in-Ok.candidates.ubers.items) c.loop-candidates.invariant.ubers c.in-Ok.ensures.listed
 
 pub loop-candidates-smaller : goal.loop-candidates-smaller
 loop-candidates-smaller g c =
@@ -34,7 +34,7 @@ loop-candidates-preserved g c =
     let stopped = subst (λ (why : Stopped). HasStopped silent mid new why) c.in-Err-Failed.field-0-is c.in-Err-Failed.ensures.stopped in
     record {
       unchanged = unchanged_then c.loop-candidates.invariant.unchanged c.choose.ensures.unchanged;
-      copies = c.loop-candidates.invariant.copies;
+      ubers = c.loop-candidates.invariant.ubers;
       taken = c.loop-candidates.invariant.taken;
       within = subst (λ (set : ℕ). IsWithin before set) (sym c.insert.ensures.value)
           (λ other has. within_with silent device other (c.loop-candidates.invariant.within other has));
@@ -45,5 +45,5 @@ loop-candidates-preserved g c =
 
 pub returns-in-Ok-clause-given : goal.returns-in-Ok-clause-given
 returns-in-Ok-clause-given g c = first_given_before (g.B.Bank.disk c.args.bank.now) (g.B.Bank.disk c.loop-candidates.bank)
-    c.loop-candidates.rings.silent c.in-Ok.candidates.copies.items c.in-Ok.candidates.entries.items c.in-Ok.candidates.giver
+    c.loop-candidates.rings.silent c.in-Ok.candidates.ubers.items c.in-Ok.candidates.entries.items c.in-Ok.candidates.giver
     c.loop-candidates.invariant.unchanged c.in-Ok.ensures.given

@@ -7,7 +7,7 @@ use Rattle.core_open.proofs.finding.choose_anew.Given as goal
 abbrev pub invariant-loop-candidates : goal.invariant-loop-candidates
 invariant-loop-candidates g l = record {
   unchanged : Unchanged (g.B.Bank.disk l.fn.bank) (g.B.Bank.disk l.bank);
-  copies : l.rings.copies.items ≡ l.fn.rings.copies.items;
+  ubers : l.rings.ubers.items ≡ l.fn.rings.ubers.items;
   taken : l.rings.taken ≡ l.fn.rings.taken;
   within : IsWithin l.fn.rings.silent l.rings.silent;
   since : HaveFailedSince (g.B.Bank.disk l.fn.bank) (g.B.Bank.disk l.bank) l.fn.rings.silent l.rings.silent;

@@ -3,9 +3,9 @@ use Rattle.std.specs.Prelude.{All, Contains, IfErr, OnErr}
 use Rattle.std.proofs.lemmas.Result.{IfOk-weaker}
 use Rattle.core_state.specs.Shown.{read_devices}
 use Rattle.core_open.specs.declared.finding.Found.{Found}
-use Rattle.core_open.specs.declared.uber_copy.UberCopy.{UberCopy}
+use Rattle.core_open.specs.declared.ring_uber.RingUber.{RingUber}
 use Rattle.core_open.specs.declared.why.OpenWhy.{OpenWhy}
-use Rattle.core_open.specs.Copies.{AreTaken}
+use Rattle.core_open.specs.RingUbers.{AreTaken}
 use Rattle.core_open.specs.Finding.{IsFindCause, IsNothingFound}
 use Rattle.core_open.specs.Holds.{shape_of}
 use Rattle.core_open.proofs.Failures.{failed_since}
@@ -17,8 +17,8 @@ use Rattle.core_open.proofs.finding.find.Goals as goal
 
 pub conclude-requires-clause-listed : goal.conclude-requires-clause-listed
 conclude-requires-clause-listed g c =
-    subst (λ (list : List UberCopy). All (Contains list) c.in_ok-candidates.candidates.copies.items)
-    (sym c.in_ok-candidates.ensures.copies) c.in_ok-candidates.ensures.listed
+    subst (λ (list : List RingUber). All (Contains list) c.in_ok-candidates.candidates.ubers.items)
+    (sym c.in_ok-candidates.ensures.ubers) c.in_ok-candidates.ensures.listed
 
 pub returns-clause-found : goal.returns-clause-found
 returns-clause-found g c =
@@ -30,13 +30,13 @@ returns-clause-found g c =
     (λ found told image holds. told (shape_of old) image
     (omega (arith, c.devices.ensures, rings.unchanged.goes_on.later.devices, choice.unchanged.goes_on.later.devices))
     (shown_after old mid rings.unchanged c.in_ok-rings.rings.silent c.choose_anew.new.rings.silent choice.within
-    c.in_ok-rings.rings.copies.items rings.shown c.choose_anew.new.rings.copies.items choice.copies image holds)
+    c.in_ok-rings.rings.ubers.items rings.shown c.choose_anew.new.rings.ubers.items choice.ubers image holds)
     (subst (λ (taken : ℕ). AreTaken (shape_of old) c.choose_anew.new.rings.silent image (read_devices (shape_of old)) taken)
     (sym choice.taken)
     (taken_within (shape_of old) c.in_ok-rings.rings.silent c.choose_anew.new.rings.silent image (read_devices (shape_of old))
     (read_devices (shape_of old)) c.in_ok-rings.rings.taken choice.within (omega arith) (rings.taken image holds)))
     (chosen_after old mid rings.unchanged c.in_ok-rings.rings.silent c.choose_anew.new.rings.silent choice.within
-    c.in_ok-rings.rings.copies.items rings.shown c.in_ok-candidates.candidates.copies.items c.in_ok-candidates.candidates.entries.items
+    c.in_ok-rings.rings.ubers.items rings.shown c.in_ok-candidates.candidates.ubers.items c.in_ok-candidates.candidates.entries.items
     choice.chosen image holds))
     c.conclude.ensures.found
 
@@ -47,13 +47,13 @@ returns-clause-fits g c =
     IfOk-weaker c.conclude.result _ _
     (λ found fits. fits (g.B.Bank.disk c.args.bank.now)
     (omega (arith, c.devices.ensures, rings.unchanged.goes_on.later.devices, choice.unchanged.goes_on.later.devices))
-    (room_then c.in_ok-candidates.candidates.copies.items rings.unchanged choice.room))
+    (room_then c.in_ok-candidates.candidates.ubers.items rings.unchanged choice.room))
     c.conclude.ensures.fits
 
 pub returns-clause-cause : goal.returns-clause-cause
 returns-clause-cause g c = by c.conclude.result c.conclude.ensures.none c.conclude.ensures.cause
   where
-    by : (result : Result Found OpenWhy) → OnErr result (c.in_ok-candidates.candidates.copies.items ≡ [])
+    by : (result : Result Found OpenWhy) → OnErr result (c.in_ok-candidates.candidates.ubers.items ≡ [])
         → IfErr result (IsNothingFound c.choose_anew.new.rings.silent)
         → IfErr result (IsFindCause (g.B.Bank.disk c.args.bank.now) (g.B.Bank.disk c.choose_anew.new.bank))
     by (Ok found) none cause = tt
@@ -64,7 +64,7 @@ returns-clause-cause g c = by c.conclude.result c.conclude.ensures.none c.conclu
         c.in_ok-candidates.ensures.unchanged c.in_ok-candidates.ensures.silent)
         (λ image holds. (chosen_after (g.B.Bank.disk c.args.bank.now) (g.B.Bank.disk c.read_rings.new.bank) c.in_ok-rings.ensures.unchanged
         c.in_ok-rings.rings.silent c.choose_anew.new.rings.silent c.in_ok-candidates.ensures.within
-        c.in_ok-rings.rings.copies.items c.in_ok-rings.ensures.shown c.in_ok-candidates.candidates.copies.items
+        c.in_ok-rings.rings.ubers.items c.in_ok-rings.ensures.shown c.in_ok-candidates.candidates.ubers.items
         c.in_ok-candidates.candidates.entries.items c.in_ok-candidates.ensures.chosen image holds).none none)
 
 pub returns-clause-given : goal.returns-clause-given
@@ -73,5 +73,5 @@ returns-clause-given g c =
     IfOk-weaker c.conclude.result _ _
     (λ found told. told (g.B.Bank.disk c.args.bank.now)
     (first_given_before (g.B.Bank.disk c.args.bank.now) (g.B.Bank.disk c.read_rings.new.bank) c.choose_anew.new.rings.silent
-    candidates.copies.items candidates.entries.items candidates.giver c.in_ok-rings.ensures.unchanged c.in_ok-candidates.ensures.given))
+    candidates.ubers.items candidates.entries.items candidates.giver c.in_ok-rings.ensures.unchanged c.in_ok-candidates.ensures.given))
     c.conclude.ensures.given

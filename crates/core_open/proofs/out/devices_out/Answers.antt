@@ -8,7 +8,7 @@ use Rattle.core_open.proofs.out.devices_out.Goals.{then-is_out, else-is_out}
 pub loop-device-preserved : goal.loop-device-preserved
 loop-device-preserved c =
     let P : ℕ → Type 0 = IsOutBy c.args.devices c.args.rings.now.silent c.args.rings.now.taken
-    c.args.rings.now.copies.items c.args.candidates.now c.args.uber.now in
+    c.args.rings.now.ubers.items c.args.candidates.now c.args.uber.now in
     let device = c.loop-device.device in
     elim c.if-is_out.branch [
       | then-is_out w ↦ subst (λ (set : ℕ). IsGathered P (device + 1) set) (sym w.out-is)

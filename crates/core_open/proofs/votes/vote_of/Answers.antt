@@ -1,7 +1,7 @@
 use Rattle.core_open.proofs.Casting.{first_vote}
 use Rattle.core_open.proofs.votes.vote_of.Goals as goal
 
-pub returns-then-copy-device-clause-vote : goal.returns-then-copy-device-clause-vote
-returns-then-copy-device-clause-vote c =
-    first_vote c.args.copies.now c.loop-copy.copy-index c.args.device c.pool.result c.copy-item.result c.requires.order
-    c.loop-copy-test.true c.copy-item.is c.if-copy-device.true c.pool.ensures.value c.loop-copy.invariant
+pub returns-then-ring_uber-device-clause-vote : goal.returns-then-ring_uber-device-clause-vote
+returns-then-ring_uber-device-clause-vote c =
+    first_vote c.args.ubers.now c.loop-ring_uber.ring_uber-index c.args.device c.pool.result c.ring_uber-item.result c.requires.order
+    c.loop-ring_uber-test.true c.ring_uber-item.is c.if-ring_uber-device.true c.pool.ensures.value c.loop-ring_uber.invariant

@@ -1,6 +1,7 @@
 use Rattle.std.proofs.Common.{◌≡◌, ◌+◌, ◌<◌, ◌∙◌, length, drop, ap, arith}
 use Rattle.gf_solve.specs.Row.{is_masked, count_lost}
-use Rattle.gf_solve.proofs.Solved.{counted_apart, sectors_behind, left_behind, parities_left, row_again, row_stays, served_behind, served_front, behind_parities, found_fits, found_made}
+use Rattle.gf_solve.proofs.Solved.{counted_apart, sectors_behind, left_behind, parities_left, row_again, row_stays}
+use Rattle.gf_solve.proofs.Solved.{served_behind, served_front, behind_parities, found_fits, found_made}
 use Rattle.gf_solve.proofs.solving.solve.Goals as goal
 
 pub fill_content-requires-clause-few : goal.fill_content-requires-clause-few

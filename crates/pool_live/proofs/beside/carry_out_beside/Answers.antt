@@ -5,8 +5,8 @@ use Rattle.client_script.specs.Script.{asked_by}
 use Rattle.core_turns.specs.Core.{at_disk}
 use Rattle.schedule.specs.Replaying.{blank_clients}
 use Rattle.schedule.specs.Turns.{turns_of}
-use Rattle.schedule.proofs.AtRest.{ready_at_rest, schedule_at_rest}
-use Rattle.schedule.proofs.Coming.{came_nowhere}
+use Rattle.schedule.proofs.run.AtRest.{ready_at_rest, schedule_at_rest}
+use Rattle.schedule.proofs.run.Coming.{came_nowhere}
 use Rattle.pool_live.specs.Sharing.{HasCarriedOut}
 use Rattle.pool_live.proofs.beside.carry_out_beside.Goals as goal
 

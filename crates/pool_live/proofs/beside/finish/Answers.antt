@@ -1,7 +1,7 @@
 use Rattle.std.proofs.Common.{[], length}
 use Rattle.schedule.specs.InTurn.{InOrder, InRest, replay_at}
 use Rattle.schedule.specs.Live.{replay_in, turns_in}
-use Rattle.schedule.proofs.AtRest.{complete_at_rest}
+use Rattle.schedule.proofs.run.AtRest.{complete_at_rest}
 use Rattle.pool_live.proofs.Sharing.{carried_played, limit_not_whole}
 use Rattle.pool_live.proofs.beside.finish.Goals.{in-Ok, in-Err}
 use Rattle.pool_live.proofs.beside.finish.Goals as goal

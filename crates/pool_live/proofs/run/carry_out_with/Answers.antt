@@ -2,11 +2,13 @@ use Rattle.std.proofs.Common.{◌≡◌, ◌⊎◌, inl, inr, ◌<◌, true, ref
 use Rattle.std.specs.Prelude.{All}
 use Rattle.reflow_mark.specs.Reflow.{Expands}
 use Rattle.client_script.specs.Script.{IsAllowed, Script as ScriptOf}
-use Rattle.open_pool.specs.Pool.{first_item}
+use Rattle.core_open.specs.Pool.{first_item}
 use Rattle.core_turns.specs.Core.{at_disk}
 use Rattle.pool_live.specs.Widening.{TellsExpansion}
-use Rattle.pool_live.proofs.Widening.{carried_alone, carried_as_they_came, left_undone, widening_actors, widening_allowed, widening_not_alone}
-use Rattle.pool_live.proofs.run.carry_out_with.Goals.{then-attaches-via-then-attaches, then-attaches-via-else-attaches+then-expands}
+use Rattle.pool_live.proofs.Widening.{carried_alone, carried_as_they_came, left_undone, widening_actors}
+use Rattle.pool_live.proofs.Widening.{widening_allowed, widening_not_alone}
+use Rattle.pool_live.proofs.run.carry_out_with.Goals.{then-attaches-via-then-attaches}
+use Rattle.pool_live.proofs.run.carry_out_with.Goals.{then-attaches-via-else-attaches+then-expands}
 use Rattle.pool_live.proofs.run.carry_out_with.Goals as goal
 
 pub returns-in_default : goal.returns-in_default

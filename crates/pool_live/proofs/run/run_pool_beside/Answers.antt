@@ -2,14 +2,14 @@ use Rattle.std.proofs.Common.{◌∙◌, ◌++◌, ◌∷◌, [], ⊎_elim, List
 use Rattle.core_state.specs.declared.item.Group.{Group as GroupItem}
 use Rattle.core_state.specs.declared.item.Item.{Item}
 use Rattle.core_state.specs.declared.item.Item.TheVariants.{Group}
-use Rattle.open_pool.specs.Pool.{first_item}
+use Rattle.core_open.specs.Pool.{first_item}
 use Rattle.core_turns.specs.Core.{Core, at_disk, HasBankOf}
 use Rattle.schedule.specs.declared.whole_run.Ran.{Ran}
 use Rattle.schedule.specs.InTurn.{InOrder, replay_at}
 use Rattle.schedule.specs.Turns.{turns_of}
 use Rattle.schedule.specs.WholeRun.{first_turns}
-use Rattle.schedule.proofs.Opened.{resting}
-use Rattle.schedule.proofs.Whole.{ends_taken, has_run, has_run_counted, has_run_in_turn, turns_counted}
+use Rattle.schedule.proofs.run.Opened.{resting}
+use Rattle.schedule.proofs.run.Whole.{ends_taken, has_run, has_run_counted, has_run_in_turn, turns_counted}
 use Rattle.pool_live.specs.Sharing.{AnswersNone}
 use Rattle.pool_live.specs.Widening.{IsAlone, IsCarriedWith, IsScriptWith}
 use Rattle.pool_live.proofs.Sharing.{counted_first}

@@ -2,7 +2,8 @@ use Rattle.std.proofs.Common.{◌≡◌, arith, rules}
 use Rattle.std.specs.Prelude.{◌++◌, codes}
 use Rattle.raidzx_top.proofs.WordTexts.{same_sectors}
 use Rattle.raidzx_top.proofs.images.memory_of.Goals as goal
-use Rattle.raidzx_top.proofs.images.memory_of.Goals.{then-sectors-lt1-via-then-sectors-lt1, then-sectors-lt1-via-else-sectors-lt1+then-sectors-gt-MOST_SECTORS}
+use Rattle.raidzx_top.proofs.images.memory_of.Goals.{then-sectors-lt1-via-then-sectors-lt1}
+use Rattle.raidzx_top.proofs.images.memory_of.Goals.{then-sectors-lt1-via-else-sectors-lt1+then-sectors-gt-MOST_SECTORS}
 
 pub returns-then-sectors-lt1-clause-none : goal.returns-then-sectors-lt1-clause-none
 returns-then-sectors-lt1-clause-none c = λ sectors is.

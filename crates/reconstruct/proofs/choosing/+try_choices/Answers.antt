@@ -2,7 +2,8 @@ use Rattle.std.proofs.Common.{◌+◌, ◌-◌, ℕ, List, sym, subst, arith}
 use Rattle.std.proofs.lemmas.Option.{IfSome_then}
 use Rattle.reconstruct.specs.Solved.{question_with}
 use Rattle.reconstruct.specs.Tried.{IsFirstTold, NoneTold}
-use Rattle.reconstruct.proofs.Choices.{first_of_none, none_of_none, first_here, none_here, ok_both, none_also, some_at, none_at}
+use Rattle.reconstruct.proofs.Choices.{first_of_none, none_of_none, first_here, none_here, ok_both, none_also, some_at}
+use Rattle.reconstruct.proofs.Choices.{none_at}
 use Rattle.reconstruct.proofs.choosing.+try_choices.Goals as goal
 
 pub returns-then-more-eq0-clause-some : goal.returns-then-more-eq0-clause-some

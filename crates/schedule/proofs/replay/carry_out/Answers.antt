@@ -1,6 +1,7 @@
-use Rattle.schedule.proofs.Words.{[], length, refl, subst, InOrder, InRest, Replay, replay_in, turns_in, HasPlayed, HasRunOutOfTurns, blank_clients}
-use Rattle.schedule.proofs.AtRest.{complete_at_rest, first_is, ready_at_rest, schedule_at_rest}
-use Rattle.schedule.proofs.Coming.{came_nowhere}
+use Rattle.schedule.proofs.Words.{[], length, refl, subst, InOrder, InRest, Replay, replay_in, turns_in, HasPlayed}
+use Rattle.schedule.proofs.Words.{HasRunOutOfTurns, blank_clients}
+use Rattle.schedule.proofs.run.AtRest.{complete_at_rest, first_is, ready_at_rest, schedule_at_rest}
+use Rattle.schedule.proofs.run.Coming.{came_nowhere}
 use Rattle.schedule.proofs.replay.carry_out.Goals as goal
 use Rattle.schedule.proofs.replay.carry_out.Goals.{in-Ok-take_turns, in-Err}
 

@@ -1,6 +1,6 @@
 use Rattle.schedule.proofs.Words.{List, sym, subst, at_disk, turns_of, turns_in, IsReady, HasTurn}
 use Rattle.schedule.specs.declared.client.Client.{Client as ClientOf}
-use Rattle.schedule.proofs.Playing.{at_err, stopped_same}
+use Rattle.schedule.proofs.order.Playing.{at_err, stopped_same}
 use Rattle.schedule.proofs.replay.count_turn_of.Goals as goal
 
 pub turn_of-requires-clause-ready : goal.turn_of-requires-clause-ready

@@ -1,7 +1,7 @@
 use Rattle.schedule.proofs.Words.{sym, ◌∙◌, arith, InRest}
-use Rattle.schedule.proofs.InTurn.{idle_not_busy, left_begun, not_busy_idle}
-use Rattle.schedule.proofs.Playing.{at_err, played_first, played_later, stopped_then}
-use Rattle.schedule.proofs.CallTaken.{begins_more, begins_one, idle_again}
+use Rattle.schedule.proofs.order.InTurn.{idle_not_busy, left_begun, not_busy_idle}
+use Rattle.schedule.proofs.order.Playing.{at_err, played_first, played_later, stopped_then}
+use Rattle.schedule.proofs.order.CallTaken.{begins_more, begins_one, idle_again}
 use Rattle.schedule.proofs.replay.take_call.Goals as goal
 
 pub returns-in_err-count_turn_of-clause-stopped : goal.returns-in_err-count_turn_of-clause-stopped

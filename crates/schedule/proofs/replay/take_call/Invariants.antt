@@ -1,4 +1,5 @@
-use Rattle.schedule.proofs.Words.{ℕ, ◌-◌, InRest, IsCallOfScript, replay_in, turns_in, HasPlayed, IsReady, most_turns, BeginsOne}
+use Rattle.schedule.proofs.Words.{ℕ, ◌-◌, InRest, IsCallOfScript, replay_in, turns_in, HasPlayed, IsReady, most_turns}
+use Rattle.schedule.proofs.Words.{BeginsOne}
 use Rattle.schedule.proofs.replay.take_call.Given as goal
 
 abbrev pub invariant-turns : goal.invariant-turns

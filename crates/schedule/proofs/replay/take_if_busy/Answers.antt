@@ -1,6 +1,6 @@
 use Rattle.schedule.proofs.Words.{sym, ◌∙◌, InRound}
-use Rattle.schedule.proofs.Playing.{at_err, passed_in_round, played_in_round}
-use Rattle.schedule.proofs.RoundTaken.{round_idle, round_turn}
+use Rattle.schedule.proofs.order.Playing.{at_err, passed_in_round, played_in_round}
+use Rattle.schedule.proofs.order.RoundTaken.{round_idle, round_turn}
 use Rattle.schedule.proofs.replay.take_if_busy.Goals as goal
 
 pub returns-then-not-is_busy-clause-played : goal.returns-then-not-is_busy-clause-played

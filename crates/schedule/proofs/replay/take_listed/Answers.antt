@@ -1,5 +1,5 @@
 use Rattle.schedule.proofs.Words.{drop, ap, arith, drop_all, take_all, InOrder}
-use Rattle.schedule.proofs.Playing.{at_err, have_had_turns, listed_more, listed_none, played_at, stopped_then}
+use Rattle.schedule.proofs.order.Playing.{at_err, have_had_turns, listed_more, listed_none, played_at, stopped_then}
 use Rattle.schedule.proofs.replay.take_listed.Goals as goal
 
 pub loop-actor-init : goal.loop-actor-init

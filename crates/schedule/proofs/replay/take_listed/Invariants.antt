@@ -1,5 +1,5 @@
 use Rattle.schedule.proofs.Words.{drop, InOrder, replay_in}
-use Rattle.schedule.proofs.Playing.{TakesListed}
+use Rattle.schedule.proofs.order.Playing.{TakesListed}
 use Rattle.schedule.proofs.replay.take_listed.Given as goal
 
 abbrev pub invariant-loop-actor : goal.invariant-loop-actor

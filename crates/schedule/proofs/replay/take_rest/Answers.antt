@@ -1,8 +1,9 @@
 use Rattle.schedule.proofs.Words.{ℕ, refl, sym, ◌∙◌, ap, subst, arith, InRest, replay_in, HaveBegun}
 use Rattle.client_script.specs.InOrder.{InOrder}
-use Rattle.schedule.proofs.InTurn.{none_left_begun}
-use Rattle.schedule.proofs.Playing.{at_err, played_at, played_none, played_then, rest_goes, stopped_then}
-use Rattle.schedule.proofs.CallTaken.{begun_none, next_begun, next_few, next_is_call, next_of_client, next_smaller, next_taken}
+use Rattle.schedule.proofs.order.InTurn.{none_left_begun}
+use Rattle.schedule.proofs.order.Playing.{at_err, played_at, played_none, played_then, rest_goes, stopped_then}
+use Rattle.schedule.proofs.order.CallTaken.{begun_none, next_begun, next_few, next_is_call, next_of_client}
+use Rattle.schedule.proofs.order.CallTaken.{next_smaller, next_taken}
 use Rattle.schedule.proofs.replay.take_rest.Goals as goal
 
 pub loop-next-init : goal.loop-next-init

@@ -1,6 +1,6 @@
 use Rattle.schedule.proofs.Words.{InRound, replay_in}
-use Rattle.schedule.proofs.Playing.{at_err, played_none, played_then, stopped_then}
-use Rattle.schedule.proofs.RoundTaken.{round_none}
+use Rattle.schedule.proofs.order.Playing.{at_err, played_none, played_then, stopped_then}
+use Rattle.schedule.proofs.order.RoundTaken.{round_none}
 use Rattle.schedule.proofs.replay.take_round.Goals as goal
 
 pub loop-actor-init : goal.loop-actor-init

@@ -1,7 +1,7 @@
 use Rattle.schedule.proofs.Words.{sym, ◌∙◌, arith}
-use Rattle.schedule.proofs.InTurn.{rest_next, round_next}
-use Rattle.schedule.proofs.Playing.{at_err, order_over, played_at, round_over, stopped_then}
-use Rattle.schedule.proofs.RoundTaken.{none_busy_idle, round_further}
+use Rattle.schedule.proofs.order.InTurn.{rest_next, round_next}
+use Rattle.schedule.proofs.order.Playing.{at_err, order_over, played_at, round_over, stopped_then}
+use Rattle.schedule.proofs.order.RoundTaken.{none_busy_idle, round_further}
 use Rattle.schedule.proofs.replay.take_rounds.Goals as goal
 
 pub rounds-init : goal.rounds-init

@@ -1,5 +1,5 @@
 use Rattle.schedule.proofs.Words.{on_ok_weaker, on_err_weaker}
-use Rattle.schedule.proofs.Playing.{at_err, played_then, stopped_then}
+use Rattle.schedule.proofs.order.Playing.{at_err, played_then, stopped_then}
 use Rattle.schedule.proofs.replay.take_turns.Goals as goal
 
 pub take_rounds-requires-clause-ready : goal.take_rounds-requires-clause-ready

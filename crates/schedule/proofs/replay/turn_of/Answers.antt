@@ -1,6 +1,8 @@
-use Rattle.schedule.proofs.Words.{◌≡◌, ◌<◌, ◌-◌, Some, length, refl, arith, slice_set, length-set, slice_get, calls_of, TakesTurn, Turned, station_of}
-use Rattle.schedule.proofs.TurnTaken.{allowed_of, client_there, going_may, turn_few, turn_none, takes_turn, turn_ready, turn_taken}
-use Rattle.schedule.proofs.Rooms.{room_after, room_left, taken_few}
+use Rattle.schedule.proofs.Words.{◌≡◌, ◌<◌, ◌-◌, Some, length, refl, arith, slice_set, length-set, slice_get, calls_of}
+use Rattle.schedule.proofs.Words.{TakesTurn, Turned, station_of}
+use Rattle.schedule.proofs.order.TurnTaken.{allowed_of, client_there, going_may, turn_few, turn_none, takes_turn}
+use Rattle.schedule.proofs.order.TurnTaken.{turn_ready, turn_taken}
+use Rattle.schedule.proofs.run.Rooms.{room_after, room_left, taken_few}
 use Rattle.schedule.proofs.replay.turn_of.Goals as goal
 
 pub take_turn-requires : goal.take_turn-requires

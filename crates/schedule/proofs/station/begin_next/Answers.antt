@@ -1,6 +1,6 @@
 use Rattle.schedule.proofs.Words.{length, refl, arith, slice_get_read, slice_get_within}
-use Rattle.schedule.proofs.Rooms.{answered_uses, begun_uses}
-use Rattle.schedule.proofs.Stations.{begun_more, begun_busy, begun_done}
+use Rattle.schedule.proofs.run.Rooms.{answered_uses, begun_uses}
+use Rattle.schedule.proofs.turn.Stations.{begun_more, begun_busy, begun_done}
 use Rattle.schedule.proofs.station.begin_next.Goals as goal
 
 pub returns-in-More-clause-turned : goal.returns-in-More-clause-turned

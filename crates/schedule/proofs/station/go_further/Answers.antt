@@ -1,5 +1,5 @@
 use Rattle.schedule.proofs.Words.{at_disk, turn_with}
-use Rattle.schedule.proofs.CallTurns.{lacking_goes, lacking_room, lacks_room, makes_room}
+use Rattle.schedule.proofs.order.CallTurns.{lacking_goes, lacking_room, lacks_room, makes_room}
 use Rattle.schedule.proofs.station.go_further.Goals as goal
 
 pub returns-in-Ok-clause-room : goal.returns-in-Ok-clause-room

@@ -1,7 +1,8 @@
-use Rattle.schedule.proofs.Words.{◌≡◌, ◌≤◌, ◌-◌, ℕ, List, Some, length, refl, arith, get_or, slice_get, slice_get_read, ScriptCall}
+use Rattle.schedule.proofs.Words.{◌≡◌, ◌≤◌, ◌-◌, ℕ, List, Some, length, refl, arith, get_or, slice_get, slice_get_read}
+use Rattle.schedule.proofs.Words.{ScriptCall}
 use Rattle.schedule.specs.Works.{commit_in}
-use Rattle.schedule.proofs.Rooms.{ended_uses, going_uses, listed_room, room_to_begin, room_to_end, room_to_go}
-use Rattle.schedule.proofs.Stations.{went_more, went_done}
+use Rattle.schedule.proofs.run.Rooms.{ended_uses, going_uses, listed_room, room_to_begin, room_to_end, room_to_go}
+use Rattle.schedule.proofs.turn.Stations.{went_more, went_done}
 use Rattle.schedule.proofs.station.take_turn.Goals as goal
 
 -- The call under way is the last one that was begun.

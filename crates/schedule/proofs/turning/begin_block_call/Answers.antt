@@ -1,5 +1,5 @@
 use Rattle.schedule.proofs.Words.{rules}
-use Rattle.schedule.proofs.CallTurns.{read_begins}
+use Rattle.schedule.proofs.order.CallTurns.{read_begins}
 use Rattle.schedule.proofs.turning.begin_block_call.Goals as goal
 
 pub returns-in-Get-clause-begins : goal.returns-in-Get-clause-begins

@@ -1,4 +1,4 @@
-use Rattle.schedule.proofs.CallTurns.{pattern_length}
+use Rattle.schedule.proofs.order.CallTurns.{pattern_length}
 use Rattle.schedule.proofs.turning.fill_len.Goals as goal
 
 pub returns-in-Pattern : goal.returns-in-Pattern

@@ -1,5 +1,5 @@
 use Rattle.schedule.proofs.Words.{at_disk, turn_with, Done}
-use Rattle.schedule.proofs.CallTurns.{filled_of, filled_under, put_gives, put_gives_goes, put_writes}
+use Rattle.schedule.proofs.order.CallTurns.{filled_of, filled_under, put_gives, put_gives_goes, put_writes}
 use Rattle.schedule.proofs.turning.go_on_putting.Goals as goal
 
 pub write_on-requires-clause-of : goal.write_on-requires-clause-of

@@ -1,5 +1,5 @@
 use Rattle.schedule.proofs.Words.{rules, turn_with, Done}
-use Rattle.schedule.proofs.CallTurns.{read_end_goes, read_ends, read_goes_on, read_of}
+use Rattle.schedule.proofs.order.CallTurns.{read_end_goes, read_ends, read_goes_on, read_of}
 use Rattle.schedule.proofs.turning.go_on_reading.Goals as goal
 
 pub returns-then-not-is_read-clause-goes_on : goal.returns-then-not-is_read-clause-goes_on

@@ -1,5 +1,5 @@
 use Rattle.schedule.proofs.Words.{at_disk}
-use Rattle.schedule.proofs.CallTurns.{attach_by, copy_by}
+use Rattle.schedule.proofs.order.CallTurns.{attach_by, copy_by}
 use Rattle.schedule.proofs.turning.turn_with_pool.Goals as goal
 
 pub returns-in-Attach-clause-goes : goal.returns-in-Attach-clause-goes

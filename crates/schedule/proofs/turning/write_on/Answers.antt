@@ -1,5 +1,5 @@
 use Rattle.schedule.proofs.Words.{Done}
-use Rattle.schedule.proofs.CallTurns.{put_end_goes}
+use Rattle.schedule.proofs.order.CallTurns.{put_end_goes}
 use Rattle.schedule.proofs.turning.write_on.Goals as goal
 
 pub returns-then-is_written-clause-goes_on : goal.returns-then-is_written-clause-goes_on

@@ -1,7 +1,8 @@
-use Rattle.schedule.proofs.Words.{◌∙◌, ◌++◌, ◌∷◌, [], List, ap, subst, Item, Group, first_item, at_disk, InOrder, replay_at, CarriesOut, Turns, turns_of, first_turns}
+use Rattle.schedule.proofs.Words.{◌∙◌, ◌++◌, ◌∷◌, [], List, ap, subst, Item, Group, first_item, at_disk, InOrder}
+use Rattle.schedule.proofs.Words.{replay_at, CarriesOut, Turns, turns_of, first_turns}
 use Rattle.core_state.specs.declared.item.Group.{Group as GroupItem}
-use Rattle.schedule.proofs.Opened.{begins_first, resting}
-use Rattle.schedule.proofs.Whole.{ends_taken, has_run_in_turn}
+use Rattle.schedule.proofs.run.Opened.{begins_first, resting}
+use Rattle.schedule.proofs.run.Whole.{ends_taken, has_run_in_turn}
 use Rattle.schedule.proofs.whole_run.run_pool.Goals as goal
 
 pub returns-clause-run : goal.returns-clause-run

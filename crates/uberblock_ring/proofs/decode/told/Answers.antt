@@ -2,7 +2,8 @@ use Rattle.std.proofs.Common.{◌≡◌, ◌∙◌, ◌*◌, ap, drop, None, Opt
 use Rattle.reflow_mark.specs.declared.reflow.Reflow.{Reflow}
 use Rattle.uberblock_ring.specs.Header.{header_of}
 use Rattle.uberblock_ring.specs.Uberblock.{Uber}
-use Rattle.uberblock_ring.proofs.Headers.{births_count, births_told, count_told, header_told, rows_told, uber_told, word_told}
+use Rattle.uberblock_ring.proofs.Headers.{births_count, births_told, count_told, header_told, rows_told, uber_told}
+use Rattle.uberblock_ring.proofs.Headers.{word_told}
 use Rattle.uberblock_ring.proofs.decode.told.Goals as goal
 
 pub returns-in_err-reflow : goal.returns-in_err-reflow

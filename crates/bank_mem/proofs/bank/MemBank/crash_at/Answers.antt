@@ -5,7 +5,8 @@ use Rattle.bank_mem.specs.Sound.{AllWide}
 use Rattle.bank_mem.proofs.Copied.{told_in}
 use Rattle.bank_mem.proofs.Left.{left_first, left_step}
 use Rattle.bank_mem.proofs.Placed.{placed_at, place_of, below_same, told_call}
-use Rattle.bank_mem.proofs.Stopped.{left_all, stopped_others, stopped_kept, stopped_filled, stopped_could, stopped_leaves}
+use Rattle.bank_mem.proofs.Stopped.{left_all, stopped_others, stopped_kept, stopped_filled, stopped_could}
+use Rattle.bank_mem.proofs.Stopped.{stopped_leaves}
 use Rattle.bank_mem.proofs.bank.MemBank.crash_at.Goals as goal
 
 pub loop-index-init : goal.loop-index-init

@@ -4,7 +4,8 @@ use Rattle.reflow_copier.specs.declared.job.CallKind.TheVariants.{Read}
 use Rattle.core_state.specs.Committing.{point_of}
 use Rattle.core_copy.specs.declared.job_run.CopiedSoFar.{CopiedSoFar}
 use Rattle.core_copy.specs.JobRun.{IsJobRun, JobRun, MakesCall}
-use Rattle.core_copy.proofs.Steps.{below_by_step, call_can_be_made, call_steps, outs_by_step, read_by_step, write_has_bytes}
+use Rattle.core_copy.proofs.Steps.{below_by_step, call_can_be_made, call_steps, outs_by_step, read_by_step}
+use Rattle.core_copy.proofs.Steps.{write_has_bytes}
 use Rattle.core_copy.proofs.job_run.JobRun.step.Goals as goal
 
 pub make-run-requires-clause-callable : goal.make-run-requires-clause-callable

@@ -1,5 +1,5 @@
-use Rattle.core_turns.proofs.GetLaws.{went_solves}
-use Rattle.core_turns.proofs.GetTurns.{went_of}
+use Rattle.core_turns.proofs.read.Laws.{went_solves}
+use Rattle.core_turns.proofs.read.Turns.{went_of}
 use Rattle.core_turns.proofs.getting.GetRun.solve.Goals as goal
 
 pub returns-clause-keeps : goal.returns-clause-keeps

@@ -1,5 +1,5 @@
 use Rattle.core_turns.proofs.Words.{refl, sym, ◌∙◌, ap, subst, Reflow, sectors_of, Uber, MayGrow, pool_of}
-use Rattle.core_turns.proofs.CommitAnswers.{answer_grows, answers_core, held_where}
+use Rattle.core_turns.proofs.sync.Answered.{answer_grows, answers_core, held_where}
 use Rattle.core_turns.proofs.open_core.Core.answer_group.Goals as goal
 
 pub answer_blocks-requires-clause-grows : goal.answer_blocks-requires-clause-grows

@@ -1,4 +1,4 @@
-use Rattle.core_turns.proofs.AttachGoes.{attach_bank, attach_goes, attach_there}
+use Rattle.core_turns.proofs.attach.Goes.{attach_bank, attach_goes, attach_there}
 use Rattle.core_turns.proofs.open_core.Core.attach_step.Goals as goal
 
 pub returns-clause-goes_on : goal.returns-clause-goes_on

@@ -1,6 +1,6 @@
 use Rattle.core_turns.proofs.Words.{◌≤◌, ◌*◌, sym, arith, rules, mul-le-mul_left, rows_of, IsWithinLimits, rows_few}
-use Rattle.core_turns.proofs.Cores.{few_out}
-use Rattle.core_turns.proofs.GetTurns.{get_begins}
+use Rattle.core_turns.proofs.state.Cores.{few_out}
+use Rattle.core_turns.proofs.read.Turns.{get_begins}
 use Rattle.core_turns.proofs.open_core.Core.begin_get.Goals as goal
 
 pub returns : goal.returns

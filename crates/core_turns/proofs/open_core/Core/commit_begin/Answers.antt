@@ -1,6 +1,6 @@
 use Rattle.core_turns.proofs.Words.{◌∙◌, ap, arith, few_entries, Uber, plan_of, Lays, Chooses}
-use Rattle.core_turns.proofs.Commits.{begins_clear, begins_right, begins_so, begun_core}
-use Rattle.core_turns.proofs.Cores.{few_out}
+use Rattle.core_turns.proofs.sync.Begins.{begins_clear, begins_right, begins_so, begun_core}
+use Rattle.core_turns.proofs.state.Cores.{few_out}
 use Rattle.core_turns.proofs.open_core.Core.commit_begin.Goals as goal
 
 pub encode_index-requires-clause-few : goal.encode_index-requires-clause-few

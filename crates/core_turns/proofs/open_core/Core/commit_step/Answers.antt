@@ -1,4 +1,4 @@
-use Rattle.core_turns.proofs.CommitGoes.{commit_goes, turn_bank}
+use Rattle.core_turns.proofs.sync.Goes.{commit_goes, turn_bank}
 use Rattle.core_turns.proofs.open_core.Core.commit_step.Goals as goal
 
 pub returns-clause-goes_on : goal.returns-clause-goes_on

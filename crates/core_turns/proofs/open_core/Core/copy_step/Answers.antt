@@ -1,5 +1,5 @@
-use Rattle.core_turns.proofs.CommitGoes.{turn_bank}
-use Rattle.core_turns.proofs.CopyRounds.{copy_goes}
+use Rattle.core_turns.proofs.sync.Goes.{turn_bank}
+use Rattle.core_turns.proofs.copy.Rounds.{copy_goes}
 use Rattle.core_turns.proofs.open_core.Core.copy_step.Goals as goal
 
 pub returns-clause-goes_on : goal.returns-clause-goes_on

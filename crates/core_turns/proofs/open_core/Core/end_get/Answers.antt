@@ -1,5 +1,5 @@
 use Rattle.core_turns.proofs.Words.{refl, sym, ◌∙◌, true≢false}
-use Rattle.core_turns.proofs.GetTurns.{read_ended}
+use Rattle.core_turns.proofs.read.Turns.{read_ended}
 use Rattle.core_turns.proofs.open_core.Core.end_get.Goals as goal
 use Rattle.core_turns.proofs.open_core.Core.end_get.Goals.{in-NotYet, in-Damaged, in-Bytes}
 

@@ -1,5 +1,5 @@
 use Rattle.core_turns.proofs.Words.{refl, sym, ◌∙◌, HoldsMap, pool_of, state_of, freed_holds, none_freed_holds}
-use Rattle.core_turns.proofs.GetTurns.{get_of}
+use Rattle.core_turns.proofs.read.Turns.{get_of}
 use Rattle.core_turns.proofs.open_core.Core.free.Goals as goal
 use Rattle.core_turns.proofs.open_core.Core.free.Goals.{in-Some, in-None}
 

@@ -1,6 +1,6 @@
 use Rattle.core_turns.proofs.Words.{ap, Core}
-use Rattle.core_turns.proofs.GetTurns.{get_of, begins_rest, begins_holds}
-use Rattle.core_turns.proofs.GetLaws.{get_finds}
+use Rattle.core_turns.proofs.read.Turns.{get_of, begins_rest, begins_holds}
+use Rattle.core_turns.proofs.read.Laws.{get_finds}
 use Rattle.core_turns.proofs.open_core.Core.get_begin.Goals as goal
 
 pub returns-clause-finds : goal.returns-clause-finds

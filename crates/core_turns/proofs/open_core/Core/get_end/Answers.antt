@@ -1,5 +1,5 @@
 use Rattle.core_turns.proofs.Words.{Done}
-use Rattle.core_turns.proofs.GetLaws.{get_tells}
+use Rattle.core_turns.proofs.read.Laws.{get_tells}
 use Rattle.core_turns.proofs.open_core.Core.get_end.Goals as goal
 
 pub returns-clause-tells : goal.returns-clause-tells

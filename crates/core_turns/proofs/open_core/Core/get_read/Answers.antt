@@ -1,6 +1,6 @@
 use Rattle.core_turns.proofs.Words.{reaching, bank_later, turn_with}
-use Rattle.core_turns.proofs.GetLaws.{get_reads}
-use Rattle.core_turns.proofs.GetTurns.{get_of_more, reads_reaching}
+use Rattle.core_turns.proofs.read.Laws.{get_reads}
+use Rattle.core_turns.proofs.read.Turns.{get_of_more, reads_reaching}
 use Rattle.core_turns.proofs.open_core.Core.get_read.Goals as goal
 
 pub returns-clause-keeps : goal.returns-clause-keeps

@@ -1,6 +1,6 @@
-use Rattle.core_turns.proofs.Cores.{core_blocks}
-use Rattle.core_turns.proofs.Holds.{shared_ended}
-use Rattle.core_turns.proofs.PutStands.{put_shared}
+use Rattle.core_turns.proofs.state.Cores.{core_blocks}
+use Rattle.core_turns.proofs.state.Holds.{shared_ended}
+use Rattle.core_turns.proofs.put.Stands.{put_shared}
 use Rattle.core_turns.proofs.open_core.Core.give_up.Goals as goal
 
 pub give_up-requires : goal.give_up-requires

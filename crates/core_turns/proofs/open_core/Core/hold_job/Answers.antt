@@ -1,5 +1,5 @@
 use Rattle.core_turns.proofs.Words.{◌≡◌, ◌∙◌, ap, Exclusive, Reflow, job_end, hold_for_job}
-use Rattle.core_turns.proofs.JobTurns.{job_begins}
+use Rattle.core_turns.proofs.copy.Turns.{job_begins}
 use Rattle.core_turns.proofs.open_core.Core.hold_job.Goals as goal
 
 pub returns-in-Ok-hold_exclusive : goal.returns-in-Ok-hold_exclusive

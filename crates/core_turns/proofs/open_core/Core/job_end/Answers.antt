@@ -1,5 +1,5 @@
 use Rattle.core_turns.proofs.Words.{◌∙◌, job_end}
-use Rattle.core_turns.proofs.JobTurns.{job_ended_core}
+use Rattle.core_turns.proofs.copy.Turns.{job_ended_core}
 use Rattle.core_turns.proofs.open_core.Core.job_end.Goals as goal
 
 pub invariant_of-self : goal.invariant_of-self

@@ -1,4 +1,4 @@
-use Rattle.core_turns.proofs.JobTurns.{job_dropped_core}
+use Rattle.core_turns.proofs.copy.Turns.{job_dropped_core}
 use Rattle.core_turns.proofs.open_core.Core.job_give_up.Goals as goal
 
 pub invariant_of-self : goal.invariant_of-self

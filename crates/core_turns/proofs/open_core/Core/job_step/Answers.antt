@@ -1,4 +1,4 @@
-use Rattle.core_turns.proofs.JobTurns.{job_turn}
+use Rattle.core_turns.proofs.copy.Turns.{job_turn}
 use Rattle.core_turns.proofs.open_core.Core.job_step.Goals as goal
 
 pub returns-clause-goes_on : goal.returns-clause-goes_on

@@ -1,6 +1,6 @@
 use Rattle.core_turns.proofs.Words.{arith, ◌+◌, ◌-◌, ◌<◌, common_steps, allocated_of}
-use Rattle.core_turns.proofs.Cores.{few_out}
-use Rattle.core_turns.proofs.PutTurns.{put_begins, put_begins_core, put_dropped, put_refused}
+use Rattle.core_turns.proofs.state.Cores.{few_out}
+use Rattle.core_turns.proofs.put.Turns.{put_begins, put_begins_core, put_dropped, put_refused}
 use Rattle.core_turns.proofs.open_core.Core.put_begin.Goals as goal
 
 pub hold_range-requires-clause-end : goal.hold_range-requires-clause-end

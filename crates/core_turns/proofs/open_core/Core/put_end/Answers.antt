@@ -1,6 +1,6 @@
 use Rattle.core_turns.proofs.Words.{ap, IndexEntry}
-use Rattle.core_turns.proofs.Cores.{few_out}
-use Rattle.core_turns.proofs.PutEnds.{put_digest, put_end_core, put_stores}
+use Rattle.core_turns.proofs.state.Cores.{few_out}
+use Rattle.core_turns.proofs.put.Ends.{put_digest, put_end_core, put_stores}
 use Rattle.core_turns.proofs.open_core.Core.put_end.Goals as goal
 
 pub into_entry-requires-clause-digest : goal.into_entry-requires-clause-digest

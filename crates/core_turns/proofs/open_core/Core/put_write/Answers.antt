@@ -1,6 +1,6 @@
 use Rattle.core_turns.proofs.Words.{turn_with}
-use Rattle.core_turns.proofs.CommitGoes.{turn_bank}
-use Rattle.core_turns.proofs.PutGoes.{put_goes_on, put_more}
+use Rattle.core_turns.proofs.sync.Goes.{turn_bank}
+use Rattle.core_turns.proofs.put.Goes.{put_goes_on, put_more}
 use Rattle.core_turns.proofs.open_core.Core.put_write.Goals as goal
 
 pub returns-clause-of : goal.returns-clause-of

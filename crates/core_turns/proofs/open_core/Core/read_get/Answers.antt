@@ -1,6 +1,6 @@
 use Rattle.core_turns.proofs.Words.{◌≡◌, ap, arith, Reflow}
-use Rattle.core_turns.proofs.Cores.{bank_has, bank_within, core_out}
-use Rattle.core_turns.proofs.GetTurns.{read_ended}
+use Rattle.core_turns.proofs.state.Cores.{bank_has, bank_within, core_out}
+use Rattle.core_turns.proofs.read.Turns.{read_ended}
 use Rattle.core_turns.proofs.open_core.Core.read_get.Goals as goal
 
 pub step-requires-clause-bank : goal.step-requires-clause-bank

@@ -1,5 +1,5 @@
 use Rattle.core_turns.proofs.Words.{◌∙◌, ap, Done, Core}
-use Rattle.core_turns.proofs.AttachGoes.{attach_too_many, stops_attach}
+use Rattle.core_turns.proofs.attach.Goes.{attach_too_many, stops_attach}
 use Rattle.core_turns.proofs.open_core.Core.step_attach.Goals as goal
 
 pub returns-then-has_too_many_out-clause-steps : goal.returns-then-has_too_many_out-clause-steps

@@ -1,6 +1,6 @@
 use Rattle.core_turns.proofs.Words.{sym, refl}
-use Rattle.core_turns.proofs.CommitGoes.{commit_fits, commit_stays, step_core}
-use Rattle.core_turns.proofs.Cores.{few_out}
+use Rattle.core_turns.proofs.sync.Goes.{commit_fits, commit_stays, step_core}
+use Rattle.core_turns.proofs.state.Cores.{few_out}
 use Rattle.core_turns.proofs.open_core.Core.step_commit.Goals as goal
 
 pub invariant_of-self : goal.invariant_of-self

@@ -1,5 +1,5 @@
-use Rattle.core_turns.proofs.Cores.{core_out}
-use Rattle.core_turns.proofs.JobTurns.{job_below, job_steps_of}
+use Rattle.core_turns.proofs.state.Cores.{core_out}
+use Rattle.core_turns.proofs.copy.Turns.{job_below, job_steps_of}
 use Rattle.core_turns.proofs.open_core.Core.step_job.Goals as goal
 
 pub returns-clause-of : goal.returns-clause-of

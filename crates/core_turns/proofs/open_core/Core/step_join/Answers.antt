@@ -1,4 +1,5 @@
-use Rattle.core_turns.proofs.AttachTurns.{join_drops_core, join_drops_more, join_goes_core, join_goes_more, join_joins_core, join_joins_more}
+use Rattle.core_turns.proofs.attach.Turns.{join_drops_core, join_drops_more, join_goes_core, join_goes_more}
+use Rattle.core_turns.proofs.attach.Turns.{join_joins_core, join_joins_more}
 use Rattle.core_turns.proofs.open_core.Core.step_join.Goals as goal
 
 pub invariant_of-self : goal.invariant_of-self

@@ -1,5 +1,5 @@
-use Rattle.core_turns.proofs.Cores.{few_out}
-use Rattle.core_turns.proofs.PutGoes.{has_left, put_inside, put_writes, put_writes_core}
+use Rattle.core_turns.proofs.state.Cores.{few_out}
+use Rattle.core_turns.proofs.put.Goes.{has_left, put_inside, put_writes, put_writes_core}
 use Rattle.core_turns.proofs.open_core.Core.write_put.Goals as goal
 
 pub step-requires-clause-inside : goal.step-requires-clause-inside

@@ -1,4 +1,4 @@
-use Rattle.core_turns.proofs.PutTurns.{went_filled}
+use Rattle.core_turns.proofs.put.Turns.{went_filled}
 use Rattle.core_turns.proofs.putting.PutRun.fill.Goals as goal
 
 pub returns-clause-of : goal.returns-clause-of

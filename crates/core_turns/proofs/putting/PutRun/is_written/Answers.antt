@@ -1,6 +1,6 @@
 use Rattle.core_turns.proofs.Words.{sym, ◌∙◌, true≢false}
-use Rattle.core_turns.proofs.PutTurns.{same_filled}
-use Rattle.core_turns.proofs.PutGoes.{put_left}
+use Rattle.core_turns.proofs.put.Turns.{same_filled}
+use Rattle.core_turns.proofs.put.Goes.{put_left}
 use Rattle.core_turns.proofs.putting.PutRun.is_written.Goals as goal
 
 pub returns-in-Some-clause-left : goal.returns-in-Some-clause-left

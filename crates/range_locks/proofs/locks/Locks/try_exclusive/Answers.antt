@@ -2,7 +2,8 @@ use Rattle.std.proofs.Common.{refl}
 use Rattle.range_locks.specs.declared.hold.HoldKind.TheVariants.{Exclusive}
 use Rattle.range_locks.specs.Holds.{IsClear}
 use Rattle.range_locks.proofs.Digits.{steps_of_walk}
-use Rattle.range_locks.proofs.Granting.{clear_of_none, exclusive_nonempty, exclusive_gains, exclusive_granted, first_in_both, granted_clear, refused_by, refused_clear}
+use Rattle.range_locks.proofs.Granting.{clear_of_none, exclusive_nonempty, exclusive_gains, exclusive_granted}
+use Rattle.range_locks.proofs.Granting.{first_in_both, granted_clear, refused_by, refused_clear}
 use Rattle.range_locks.proofs.locks.Locks.try_exclusive.Goals as goal
 
 pub place_apart-at-requires-clause-nonempty : goal.place_apart-at-requires-clause-nonempty

@@ -2,7 +2,8 @@ use Rattle.std.proofs.Common.{refl}
 use Rattle.range_locks.specs.declared.hold.HoldKind.TheVariants.{Shared}
 use Rattle.range_locks.specs.Holds.{IsClear}
 use Rattle.range_locks.proofs.Digits.{steps_of_both, steps_of_one}
-use Rattle.range_locks.proofs.Granting.{clear_of_none, exclusive_nonempty, first_for_shared, granted_clear, refused_by, refused_clear, shared_gains, shared_granted}
+use Rattle.range_locks.proofs.Granting.{clear_of_none, exclusive_nonempty, first_for_shared, granted_clear, refused_by}
+use Rattle.range_locks.proofs.Granting.{refused_clear, shared_gains, shared_granted}
 use Rattle.range_locks.proofs.locks.Locks.try_shared.Goals as goal
 
 pub place_apart-first-requires-clause-nonempty : goal.place_apart-first-requires-clause-nonempty

@@ -1,7 +1,7 @@
 use Rattle.schedule.proofs.Words.{◌∙◌, subst, sym, fill_bytes, IsFillable, MayGoOn}
 use Rattle.client_script.specs.declared.call.ScriptCall.{ScriptCall as CallOf}
-use Rattle.schedule.proofs.CallTurns.{put_ahead}
-use Rattle.schedule.proofs.Theirs.{some_is}
+use Rattle.schedule.proofs.order.CallTurns.{put_ahead}
+use Rattle.schedule.proofs.turn.Theirs.{some_is}
 use Rattle.schedule.proofs.client.Work.ahead.Goals as goal
 
 pub returns-in-Some-clause-can : goal.returns-in-Some-clause-can

@@ -1,6 +1,6 @@
 use Rattle.schedule.proofs.Words.{◌-◌, ◌∙◌, arith, sym, true≢false, slice_get_within}
-use Rattle.schedule.proofs.Theirs.{some_is}
-use Rattle.schedule.proofs.TurnTaken.{client_there, going_may}
+use Rattle.schedule.proofs.turn.Theirs.{some_is}
+use Rattle.schedule.proofs.order.TurnTaken.{client_there, going_may}
 use Rattle.schedule.proofs.progress.Progress.ahead.Goals as goal
 
 pub ahead-requires-clause-may : goal.ahead-requires-clause-may

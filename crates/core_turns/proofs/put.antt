@@ -1,0 +1,9 @@
+pub mod Places
+pub mod Turns
+pub mod Goes
+pub mod Ends
+pub mod Ranges
+pub mod Calls
+pub mod Stands
+pub mod Writes
+pub mod Moved

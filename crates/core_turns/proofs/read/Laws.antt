@@ -1,0 +1,115 @@
+-- What a read keeps of its block, turn by turn.
+use Rattle.core_turns.proofs.Words.{◌≡◌, ℕ, ◌<◌, List, false, Option, Some, None, Result, Ok, Err, sym, ◌∙◌, ap, arith}
+use Rattle.core_turns.proofs.Words.{OnOk, cases_lt, Disk, Unchanged, rows_of, IsRequiredPlace, IsFrontOf, entry_of}
+use Rattle.core_turns.proofs.Words.{IsLeftOver, has_device, IsWithin, Kind, Map, Cell, IsCell, found_id, found_listed}
+use Rattle.core_turns.proofs.Words.{HasLostFew, OnlyFailedGoOut, point_of, IsAtColumn, read_begun, read_stays}
+use Rattle.core_turns.proofs.Words.{read_more, read_left_over, read_lost_few, IsReadRight, HoldsMap, block_stays}
+use Rattle.core_turns.proofs.Words.{GetRun, OutOfMemory, Solved, NotYet, Bytes, Damaged, Turn, More, Busy, Done, Core}
+use Rattle.core_turns.proofs.Words.{CoreState, at_disk, pool_at, IsReadKind, HasTooManyOut, IsGetOf, BeginsGet}
+use Rattle.core_turns.proofs.Words.{ReadsTurn, IsSolved, SolvesGet, AnswersSolved, EndsGet, IsSolvedAs, HoldsGet}
+use Rattle.core_turns.proofs.Words.{FindsGet, KeepsGet, TellsGet, answer_of, to_solve_of}
+use Rattle.core_state.specs.declared.answer.Kind.TheVariants as kind
+
+-- A read that begins holds the block that the map has at its id.
+pub get_finds : (map : Map) (old new : Core) (disk : Disk) (actor id : ℕ) (asked : Kind) (result : Turn GetRun)
+    → HoldsMap map (pool_at (at_disk old disk)) → BeginsGet old new actor asked id result
+    → FindsGet map (at_disk new disk) id result
+get_finds map old new disk actor id asked (More run) holds begins =
+    let listed = found_listed old.pool.blocks.table.entries id run.entry begins.1 in
+    let told = holds.table.listed run.entry listed in
+    rw begins.6 (
+      told.0,
+      ap map (sym (found_id old.pool.blocks.table.entries id run.entry begins.1)) ∙ told.1,
+      search (read_begun, arith),
+    )
+get_finds map old new disk actor id asked (Busy by) holds begins = tt
+get_finds map old new disk actor id asked (Done given) holds begins = search (by, arith)
+  where
+    by : entry_of old.pool.blocks.table.entries id ≡ None → (value : Option (List ℕ)) → map id ≡ value → map id ≡ None
+    by none None is = is
+    by none (Some content) is = search arith
+
+-- A read that has one column more is of its block still.
+pub get_reads : {content : List ℕ} (before after : CoreState) {run : GetRun} (result : Turn GetRun)
+    → IsFrontOf before.core.pool.uber.reflow before.core.pool.done → IsGetOf before.core run → IsAtColumn run.read
+    → run.read.row < rows_of run.read.layout → Unchanged before.disk after.disk
+    → OnlyFailedGoOut (point_of before.core.pool.out before.disk) (point_of after.core.pool.out after.disk)
+    → HoldsGet content before run → ReadsTurn before run after result → KeepsGet content after result
+get_reads {content} before after {run} (More next) front of place left unchanged outs holds reads =
+    let reflow = before.core.pool.uber.reflow in
+    let done = before.core.pool.done in
+    rw (reads.2, reads.1) (record {
+      right = rw reads.3.on.layout_is (block_stays run.read.layout content reflow done before.disk.reads
+          after.disk.reads before.core.pool.out after.core.pool.out outs.still
+          (λ cell device device_sector is required used told. unchanged.reads device device_sector ∙ told) holds.right);
+      len_is = holds.len_is;
+      are_bytes = holds.are_bytes;
+      digest_is = holds.digest_is;
+      so_far = read_more content reflow done run.read next.read (point_of before.core.pool.out before.disk)
+          (point_of after.core.pool.out after.disk) place left of.pool front.front holds.right reads.3 holds.so_far;
+      solved = λ few. holds.solved reads.0;
+    })
+get_reads before after other front of place left unchanged outs holds reads = tt
+
+-- What is solved of a block that was read whole is the block.
+pub get_solves : (content : List ℕ) (state : CoreState) (run next : GetRun) → run.read.row ≡ rows_of run.read.layout
+    → IsGetOf state.core run → HoldsGet content state run → SolvesGet run next → HoldsGet content state next
+get_solves content state run next whole of holds solves = search (by, arith)
+  where
+    left_over : IsLeftOver run.read.layout content run.read.read.rows run.read.read.lost.items
+    left_over = search read_left_over
+
+    lost_few : (HasTooManyOut state.core → ⊥) → HasLostFew run.read.layout run.read.read
+    lost_few few = search (read_lost_few, cases_lt, arith)
+
+    by : (HasTooManyOut state.core → ⊥) → (solved : Solved) → IsSolved (to_solve_of run) solved
+        → IsSolvedAs content solved
+    by few NotYet is = tt
+    by few (Bytes bytes) is = search (left_over, lost_few, arith)
+    by few Damaged is = search (left_over, lost_few, arith)
+
+-- A read is answered by its block, or was cut short.
+pub get_tells : (content : List ℕ) (old new : Core) (disk : Disk) (run : GetRun) (result : Turn GetRun)
+    → IsReadKind run.kind → HoldsGet content (at_disk old disk) run → EndsGet old run new result
+    → TellsGet content run result
+get_tells content old new disk run (Done given) asked holds ends = search (by, cases_lt, arith)
+  where
+    told : (bytes : List ℕ) (asked : Kind) → IsReadKind asked → bytes ≡ content
+        → IsReadRight (Some content) asked (answer_of asked run.entry bytes)
+    told bytes kind.Get is same = same
+    told bytes kind.Sum is same = (cc, cc)
+    told bytes other is same = absurd is
+
+    by : (solved : Solved) → IsSolvedAs content solved → AnswersSolved run solved given
+        → IsReadRight (Some content) run.kind given
+    by NotYet is answers = search arith
+    by (Bytes bytes) is answers = search (told, arith)
+    by Damaged is answers = absurd is
+get_tells content old new disk run other asked holds ends = absurd ends
+
+-- A read stays with its block while others' turns leave what is read at the block's places, on devices that
+-- are in use still.
+pub get_stays : (content : List ℕ) (before after : CoreState) (run : GetRun)
+    → after.core.pool.uber.reflow ≡ before.core.pool.uber.reflow → after.core.pool.done ≡ before.core.pool.done
+    → IsWithin before.core.pool.out after.core.pool.out
+    → ((HasTooManyOut after.core → ⊥) → HasTooManyOut before.core → ⊥)
+    → ((cell : Cell) (device device_sector : ℕ) → IsCell run.read.layout content cell
+    → IsRequiredPlace before.core.pool.uber.reflow before.core.pool.done cell.row_end cell.sector device device_sector
+    → has_device after.core.pool.out device ≡ false → before.disk.reads device device_sector ≡ Some cell.bytes
+    → after.disk.reads device device_sector ≡ Some cell.bytes)
+    → HoldsGet content before run → HoldsGet content after run
+get_stays content before after run widths front within few same holds = record {
+  right = rw (widths, front) (search block_stays);
+  len_is = holds.len_is;
+  are_bytes = holds.are_bytes;
+  digest_is = holds.digest_is;
+  so_far = search (read_stays, arith);
+  solved = λ few_after. holds.solved (few few_after);
+}
+
+-- So it is where solving went well.
+pub went_solves : (run next : GetRun) (result : Result (Unit {0}) OutOfMemory) → OnOk result (SolvesGet run next)
+    → OnOk result ((content : List ℕ) (state : CoreState) → run.read.row ≡ rows_of run.read.layout
+    → IsGetOf state.core run → HoldsGet content state run → HoldsGet content state next)
+went_solves run next (Ok value) solves = search get_solves
+went_solves run next (Err why) solves = tt

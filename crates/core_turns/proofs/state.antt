@@ -1,0 +1,7 @@
+pub mod Cores
+pub mod Holds
+pub mod Rows
+pub mod Frames
+pub mod StandFrames
+pub mod Writes
+pub mod Calls

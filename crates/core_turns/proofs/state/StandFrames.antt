@@ -1,0 +1,145 @@
+-- What a turn leaves of the map, of the groups, and of all that stands.
+use Rattle.core_turns.proofs.Words.{◌≡◌, ℕ, List, Option, Some, None, refl, ◌∙◌, arith, Contains, Disk, Lawful, Later}
+use Rattle.core_turns.proofs.Words.{Unchanged, tells_later, IndexEntry, IsWithin, Map, layout_of, Kept, Setting}
+use Rattle.core_turns.proofs.Words.{KeepsSince, Nowhere, none_lost, unchanged_frames, knows_frame, might_at, IsListed}
+use Rattle.core_turns.proofs.Words.{OnlyFailedGoOut, point_of, IsRightBlock, CommitRun, committing_unchanged, HoldsMap}
+use Rattle.core_turns.proofs.Words.{bank_later, count_grows, block_stays, Core, CoreState, pool_at, IsCommitOf}
+use Rattle.core_turns.proofs.Words.{hold_for, HoldingCall, actor_of, HoldsCall, LiesInPool, PutsSpare, GroupsStand}
+use Rattle.core_turns.proofs.Words.{CommitStands, IsCommitting, Stands}
+use Rattle.core_turns.proofs.put.Places.{required_data}
+use Rattle.core_turns.proofs.state.Holds.{KeepsAlone, keeps_same}
+use Rattle.core_turns.proofs.state.Frames.{Leaves, AreOff, IsCallOff, OnlyOut, call_stays}
+
+-- ---- the map
+
+-- The map is held still where its blocks are off what was written.
+pub map_stays : (P : ℕ → ℕ → Type 0) (map : Map) (before after : CoreState) → Leaves P before after
+    → after.core.pool.blocks.table.entries ≡ before.core.pool.blocks.table.entries → AreOff P before.core
+    → HoldsMap map (pool_at before) → HoldsMap map (pool_at after)
+map_stays P map before after leaves table off holds = search (right, arith)
+  where
+    right : (entry : IndexEntry) (content : List ℕ) → IsListed before.core.pool.blocks.table.entries entry
+        → map entry.id ≡ Some content
+        → IsRightBlock (layout_of after.core.pool.uber.parity after.core.pool.uber.births entry) content
+        after.core.pool.uber.reflow after.core.pool.done after.disk.reads after.core.pool.out
+    right entry content listed has = rw (leaves.parity, leaves.births, leaves.reflow, leaves.done)
+        (block_stays (layout_of before.core.pool.uber.parity before.core.pool.uber.births entry) content
+        before.core.pool.uber.reflow before.core.pool.done before.disk.reads after.disk.reads before.core.pool.out
+        after.core.pool.out leaves.within
+        (λ cell device device_sector is place used read. leaves.reads device device_sector used
+        (search (required_data, leaves.front)) (off entry listed content cell device device_sector is place) ∙ read)
+        (holds.right entry content listed has))
+
+-- ---- the groups
+
+-- What a turn leaves of the commit under way: the pool's uberblock and front, the group begun last and who makes it,
+-- and what it holds. Devices go out.
+pub record LeavesCommit (old new : Core) : Type 0 where
+  pub uber : new.pool.uber ≡ old.pool.uber
+  pub done : new.pool.done ≡ old.pool.done
+  pub begun : new.begun ≡ old.begun
+  pub committing : new.committing ≡ old.committing
+  pub reach : new.reach ≡ old.reach
+  pub within : IsWithin old.pool.out new.pool.out
+  pub holds : KeepsAlone old.pool.done old.holds new.holds
+
+-- So it is one of the core still.
+pub commit_still : {run : CommitRun} (old new : Core) → LeavesCommit old new → IsCommitOf old run → IsCommitOf new run
+commit_still {run} old new leaves of =
+    let hold = hold_for old.pool.uber.reflow run.uber.reflow of.actor in
+    record {
+      actor = of.actor;
+      under_way = cc;
+      number = cc;
+      next = search (leaves.uber, leaves.done, arith);
+      holds = rw (leaves.uber, leaves.done) (leaves.holds hold refl of.holds);
+      lists = search arith;
+      reach = cc;
+    }
+
+-- Where only devices went out the commit is left.
+pub out_leaves : (old new : Core) → OnlyOut old new → IsWithin old.pool.out new.pool.out → LeavesCommit old new
+out_leaves old new core within = search (keeps_same, arith)
+
+-- The group's blocks lie in the pool still.
+pub lies_still : {kept : Kept} (old new : Core) → LeavesCommit old new → LiesInPool old kept → LiesInPool new kept
+lies_still old new leaves lies = search (rw (← leaves.uber) at lies.inside, arith)
+
+-- The laws of a disk held before where they hold after nothing was changed.
+lawful_before : {old new : Disk} → Unchanged old new → Lawful new → Lawful old
+lawful_before {old} {new} same lawful =
+    let leaves : (d x : ℕ) → new.leaves new.clock d x ≡ old.leaves old.clock d x = λ d x. search arith in
+    let could : (d x : ℕ) → new.could new.clock d x ≡ old.could old.clock d x = λ d x. search arith in
+    record {
+      stays_read = search (leaves, arith);
+      reads_could = search (could, arith);
+      stays_could = λ d x bytes other is has. lawful.stays_could d x bytes other (leaves d x ∙ is) (search could);
+    }
+
+-- The group of a commit stands still where only devices went out, as far as the commit has come.
+pub group_still : {setting : Setting} {last : Kept} {begun : List Kept} {calls : List HoldingCall}
+    {run next : CommitRun} (before after : CoreState) (was : CommitStands setting last begun calls run before)
+    → OnlyOut before.core after.core → IsCommitOf after.core next
+    → IsCommitting setting last was.next next (point_of after.core.pool.out after.disk)
+    → CommitStands setting last begun calls next after
+group_still {calls = calls} before after was core of come =
+    let spared : PutsSpare after calls was.next = λ put has. rw core (was.spared put has) in
+    search (come, arith)
+
+-- The groups stand still where devices were read,
+pub groups_read : (setting : Setting) (last : Kept) (begun : List Kept) (calls : List HoldingCall)
+    (commit : Option CommitRun) (before after : CoreState) → OnlyOut before.core after.core
+    → Unchanged before.disk after.disk
+    → OnlyFailedGoOut (point_of before.core.pool.out before.disk) (point_of after.core.pool.out after.disk)
+    → Lawful after.disk → GroupsStand setting last begun calls commit before
+    → GroupsStand setting last begun calls commit after
+groups_read setting last begun calls None before after core same outs lawful groups = record {
+  knows = knows_frame Nowhere none_lost setting last begun before.disk after.disk (lawful_before same lawful)
+      (unchanged_frames same) (λ d x nowhere. absurd nowhere) groups.knows;
+  whole = search (count_grows, arith);
+}
+groups_read setting last begun calls (Some run) before after core same outs lawful groups =
+    group_still before after groups core (search (commit_still, out_leaves, outs.still)) (search committing_unchanged)
+
+-- and each image since a moment keeps what it kept: no moment is new.
+pub since_read : (setting : Setting) (groups : List Kept) (time : ℕ) (old new : Disk) → Unchanged old new
+    → KeepsSince setting groups time old → KeepsSince setting groups time new
+since_read setting groups time old new same since = record {
+  each = λ moment image from until might. since.each moment image from (omega arith) (search (might_at, arith));
+}
+
+-- ---- all that stands
+
+module _ {setting : Setting} {last : Kept} {begun : List Kept} {map : Map} where
+  -- What stands, where uberblock and blocks are as they were: the groups and the calls are told anew.
+  pub stands_still : {contents nows : ℕ → List ℕ} {calls nexts : List HoldingCall} {commit next : Option CommitRun}
+      (P : ℕ → ℕ → Type 0) (before after : CoreState) → Leaves P before after → AreOff P before.core
+      → after.core.pool.uber ≡ before.core.pool.uber → after.core.reach ≡ before.core.reach
+      → after.core.pool.blocks ≡ before.core.pool.blocks
+      → Later before.disk after.disk → GroupsStand setting last begun nexts next after → PutsSpare after nexts last
+      → ((call : HoldingCall) → Contains nexts call → HoldsCall after (nows (actor_of call)) call)
+      → Stands setting last begun map contents calls commit before → Stands setting last begun map nows nexts next after
+  stands_still P before after leaves off uber reach blocks later groups spared each stands =
+      let holds = map_stays P map before after leaves (cc) off stands.holds in
+      search (uber, reach, tells_later, bank_later, arith)
+
+  -- So it is where only devices went out.
+  pub stands_anew : {contents nows : ℕ → List ℕ} {calls nexts : List HoldingCall} {commit next : Option CommitRun}
+      (P : ℕ → ℕ → Type 0) (before after : CoreState)
+      → Leaves P before after → AreOff P before.core → OnlyOut before.core after.core → Later before.disk after.disk
+      → GroupsStand setting last begun nexts next after → PutsSpare after nexts last
+      → ((call : HoldingCall) → Contains nexts call → HoldsCall after (nows (actor_of call)) call)
+      → Stands setting last begun map contents calls commit before → Stands setting last begun map nows nexts next after
+  stands_anew P before after leaves off core = stands_still P before after leaves off (rw core) (rw core) (rw core)
+
+  -- What stands, over a turn that is none of these calls', as a step of a commit.
+  pub stands_frame : {contents : ℕ → List ℕ} {calls : List HoldingCall} {commit next : Option CommitRun}
+      (P : ℕ → ℕ → Type 0) (before after : CoreState) → Leaves P before after
+      → ((call : HoldingCall) → Contains calls call
+      → IsCallOff P before.core.pool.uber.reflow before.core.pool.done call)
+      → AreOff P before.core → OnlyOut before.core after.core → Later before.disk after.disk
+      → GroupsStand setting last begun calls next after → Stands setting last begun map contents calls commit before
+      → Stands setting last begun map contents calls next after
+  stands_frame P before after leaves calls_off off core later groups stands =
+      stands_anew P before after leaves off core later groups (λ run listed. rw core (stands.spared run listed))
+      (λ call listed. search (call_stays, calls_off, stands.each)) stands

@@ -1,0 +1,82 @@
+-- A write to sectors that no group asks for leaves the groups, what images keep of them, and all else that stands.
+use Rattle.core_turns.proofs.Words.{◌≡◌, ℕ, ◌≤◌, List, [], ◌∷◌, Option, Some, None, refl, ◌∙◌, ap, Lawful, TouchesOnly}
+use Rattle.core_turns.proofs.Words.{Gains, IsWithin, IsFrontOf, count_of, Kept, Map, Setting, IsSpare, IsRowOf}
+use Rattle.core_turns.proofs.Words.{KeepsSince, gains_old, pairs_beside, touched_knows, touched_since, Stage, Lays}
+use Rattle.core_turns.proofs.Words.{CommitRun, IsBeside, shown_at, shown_by, committing_knows, committing_touched}
+use Rattle.core_turns.proofs.Words.{CoreState, at_disk, HoldingCall, AreBeside, AreCallsOf, CommitStands, GroupsStand}
+use Rattle.core_turns.proofs.Words.{HoldsCall, IsCallOfCore, NoCommitStands, PutsSpare, Stands, actor_of, shown_in}
+use Rattle.core_turns.proofs.Words.{shown_of, arith}
+use Rattle.core_commit.specs.declared.commit_run.Stage.TheVariants.{Signs}
+use Rattle.core_turns.proofs.free.TakenBack.{each_gained}
+use Rattle.core_turns.proofs.state.Calls.{beside_turn}
+use Rattle.core_turns.proofs.state.Frames.{AreOff, IsCallOff, Leaves, OnlyOut, call_stays, leaves_touched}
+use Rattle.core_turns.proofs.state.StandFrames.{commit_still, lies_still, out_leaves, stands_anew}
+
+-- Of one group that was begun images can show what its commit has come to.
+pub shown_one : (next : Kept) (stage : Stage) → shown_in (next ∷ []) stage ≡ shown_at next stage
+shown_one next Lays = refl
+shown_one next Signs = refl
+
+-- These sectors are asked for by no group that stands, and a write there may come between the steps of a commit.
+pub record AreSpare (P : ℕ → ℕ → Type 0) (setting : Setting) (last : Kept) (begun : List Kept)
+    (calls : List HoldingCall) (state : CoreState) : Type 0 where
+  pub alone : NoCommitStands setting last begun state → (device device_sector : ℕ) → P device device_sector
+      → IsSpare setting last begun device device_sector
+  pub shown : (commit : CommitRun) (groups : CommitStands setting last begun calls commit state)
+      → (device device_sector : ℕ) → P device device_sector
+      → IsSpare setting last (shown_by groups.next commit) device device_sector
+  pub beside : (commit : CommitRun) (groups : CommitStands setting last begun calls commit state)
+      → IsBeside setting last groups.next P
+
+-- the state after a write, as its turn says
+abbrev pub written_by : CoreState → CoreState → CoreState
+written_by before after =
+    at_disk (record before.core { pool = record before.core.pool { out = after.core.pool.out } }) after.disk
+
+module _ {before : CoreState} (after : CoreState) {P : ℕ → ℕ → Type 0} (touched : TouchesOnly P before.disk after.disk)
+    (within : IsWithin before.core.pool.out after.core.pool.out) (lawful : Lawful before.disk)
+    (few : count_of before.core.pool.out ≤ before.core.pool.uber.parity) {setting : Setting} {last : Kept}
+    {begun : List Kept} {calls : List HoldingCall} (spare : AreSpare P setting last begun calls before) where
+  -- What is known of the groups stays,
+  groups_written : (nexts : List HoldingCall) (commit : Option CommitRun) → Lawful after.disk
+      → ((group : Kept) → PutsSpare before calls group → PutsSpare before nexts group)
+      → GroupsStand setting last begun calls commit before
+      → GroupsStand setting last begun nexts commit (written_by before after)
+  groups_written nexts None still_lawful fewer groups = search (touched_knows, spare.alone, groups.whole, arith)
+  groups_written nexts (Some commit) still_lawful fewer groups = search
+      (commit_still, out_leaves, committing_touched, lies_still, spare.beside, arith)
+
+  -- and what each image keeps.
+  pub since_written : (commit : Option CommitRun) (groups : List Kept) (time : ℕ)
+      → IsRowOf groups last (shown_of begun commit)
+      → GroupsStand setting last begun calls commit before → KeepsSince setting groups time before.disk
+      → KeepsSince setting groups time after.disk
+  since_written None groups time row stands kept = search (touched_since, spare.alone, stands.knows, arith)
+  since_written (Some commit) groups time row stands kept =
+      touched_since P touched setting last (shown_by stands.next commit) lawful (spare.shown commit stands)
+      (search committing_knows) groups time
+      (rw (← ap (λ (l : List Kept). shown_in l commit.stage) stands.begun_is ∙ shown_one stands.next commit.stage) row)
+      kept
+
+  -- All stands still, where the call that writes has come further and others' places are off the write.
+  pub writes_stand : {contents : ℕ → List ℕ} {map : Map} {commit : Option CommitRun} {left nexts : List HoldingCall}
+      {call next : HoldingCall} → OnlyOut before.core after.core → Lawful after.disk
+      → IsFrontOf before.core.pool.uber.reflow before.core.pool.done → AreOff P before.core
+      → ((other : HoldingCall) → AreBeside call other → IsCallOfCore before.core other
+      → IsCallOff P before.core.pool.uber.reflow before.core.pool.done other)
+      → Gains left calls call → Gains left nexts next
+      → ((group : Kept) → PutsSpare before calls group → PutsSpare before nexts group)
+      → HoldsCall (written_by before after) (contents (actor_of next)) next → AreCallsOf before.core calls
+      → Stands setting last begun map contents calls commit before
+      → Stands setting last begun map contents nexts commit after
+  writes_stand {contents} {commit = commit} {left} {nexts} {call} {next} same still_lawful front off calls_off gains
+      again fewer holds are stands =
+      rw same (stands_anew P before (written_by before after) leaves off refl touched.later
+      (search (groups_written, arith)) (fewer last stands.spared)
+      (each_gained again holds (λ other rest.
+      let was = gains_old left calls call other gains rest in
+      let beside = pairs_beside AreBeside beside_turn calls left call other gains are.beside rest in
+      grind (arith, call_stays, leaves, beside))) stands)
+    where
+      leaves : Leaves P before (written_by before after)
+      leaves = search (leaves_touched, arith)

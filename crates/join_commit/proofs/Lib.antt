@@ -1,4 +1,0 @@
-pub mod Turns
-pub mod Guests
-pub mod Joins
-pub mod Spares

@@ -1,3 +1,0 @@
-pub mod JoinRun
-pub mod JoinTurns
-pub mod Joining

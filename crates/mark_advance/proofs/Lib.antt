@@ -1,4 +1,0 @@
-pub mod Advance
-pub mod Ranges
-pub mod Apart
-pub mod Follows

@@ -1,0 +1,12 @@
+pub mod Uses
+pub mod NewDevices
+pub mod Refused
+pub mod Answered
+pub mod Comes
+pub mod Reads
+pub mod Joins
+pub mod Commits
+pub mod Widens
+pub mod Cut
+pub mod Ends
+pub mod Dropped

@@ -1,0 +1,4 @@
+pub mod Refused
+pub mod Uses
+pub mod Comes
+pub mod Goes

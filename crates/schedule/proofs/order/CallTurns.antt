@@ -1,0 +1,153 @@
+-- The turns of calls.
+use Rattle.schedule.proofs.Words.{◌≡◌, ◌⊎◌, ⊎_elim, ℕ, zero, suc, ◌+◌, length, List, Option, Some, None, refl, ap}
+use Rattle.schedule.proofs.Words.{arith, IsTrue, is_some, false≢true, Disk, Unchanged, rows_of, Uber, OnlyFailedGoOut}
+use Rattle.schedule.proofs.Words.{point_of, read_touches, ScriptCall, fill_bytes, pattern_from, AttachRun, CopyRound}
+use Rattle.schedule.proofs.Words.{IsMoreAttach, StepsAttach, IsMoreRound, StepsCopy, GetRun, ToFill, Blocks, IsUnderWay}
+use Rattle.schedule.proofs.Words.{PutRun, Turn, Done, Core, CoreState, at_disk, IsReadKind, IsGetOf, BeginsGet}
+use Rattle.schedule.proofs.Words.{ReadsTurn, SolvesGet, EndsGet, IsFillable, IsPutOf, FillsPut, EndsPut, GivesUpTurn}
+use Rattle.schedule.proofs.Words.{left_to_fill, to_fill_of, TurnGoesOn, reads_reaching, fills_of, Work, MakesRoom}
+use Rattle.schedule.proofs.Words.{taken_for, BeginsCall, GoesOnBy, IsFilledIn, MayGoOn, PutGoesOn, WritesOn, ReadGoesOn}
+use Rattle.schedule.proofs.Words.{WorkGoesOn, attach_turn, copy_turn, read_turn, made_in}
+use Rattle.std.specs.Prelude.{◌≤◌}
+use Rattle.core_state.specs.declared.answer.Answer.TheVariants as answer
+use Rattle.schedule.specs.declared.client.Work.TheVariants as work
+use Rattle.schedule.proofs.turn.LeavesPool.{pool_goes}
+use Rattle.schedule.proofs.run.Rooms.{taken_one}
+
+-- ---- first turns
+
+-- A pattern has as many bytes as it says.
+pub pattern_length : (seed from len : ℕ) → length (pattern_from seed from len) ≡ len
+pattern_length seed from zero = refl
+pattern_length seed from (suc len) = omega (arith, pattern_length seed (from + 1) len)
+
+-- The first turn of a read is that of its call.
+pub read_begins : (old new : Core) (devices actor : ℕ) {id : ℕ} (call : ScriptCall)
+    (turn : Turn GetRun) {result : Turn Work}
+    → IsReadKind call.kind → call.id ≡ Some id → result ≡ read_turn turn → BeginsGet old new actor call.kind id turn
+    → BeginsCall old new devices actor call result
+read_begins old new devices actor call turn is id_is same begins = grind arith
+
+-- ---- turns without a device call
+
+-- The last turn of a put goes on,
+pub put_end_goes : {old new : Core} {disk : Disk} (run : PutRun) (turn : Turn PutRun) → EndsPut old run new turn
+    → TurnGoesOn (at_disk old disk) (at_disk new disk)
+put_end_goes run (Done answer.Stored) ends = pool_goes ends.rest
+put_end_goes run (Done (answer.TooManyFailed out)) ends = pool_goes ends.gives_up.rest
+put_end_goes run turn ends = absurd ends
+
+-- and so does one that gives up,
+pub put_gives_goes : {old new : Core} {disk : Disk} (run : PutRun) (turn : Turn PutRun) → GivesUpTurn old run new turn
+    → TurnGoesOn (at_disk old disk) (at_disk new disk)
+put_gives_goes run (Done answer.NoMemory) gives = pool_goes gives.1.rest
+put_gives_goes run (Done (answer.TooManyFailed out)) gives = pool_goes gives.gives_up.rest
+put_gives_goes run turn gives = absurd gives
+
+-- and the last one of a read.
+pub read_end_goes : {old new : Core} {disk : Disk} (run : GetRun) (turn : Turn GetRun) → EndsGet old run new turn
+    → TurnGoesOn (at_disk old disk) (at_disk new disk)
+read_end_goes run (Done given) ends = pool_goes ends.rest
+read_end_goes run turn ends = absurd ends
+
+-- ---- puts
+
+-- What is filled in is the core's put still.
+pub filled_of : {core : Core} (call : ScriptCall) {run filled : PutRun} → IsFilledIn call run filled
+    → length (fill_bytes call.fill) ≡ run.len → IsPutOf core run → IsPutOf core filled
+filled_of call {run = run} {filled = filled} fills len of = ⊎_elim
+    (search arith)
+    (λ (now : (run.filled ≡ None) × FillsPut run filled (fill_bytes call.fill)).
+    search fills_of) fills
+
+-- and has its sectors.
+pub filled_under : {blocks : Blocks} (call : ScriptCall) {run filled : PutRun} → IsFilledIn call run filled
+    → IsUnderWay blocks run.range → IsUnderWay blocks filled.range
+filled_under call fills under = search arith
+
+-- A put for which memory was wanting is given up.
+pub put_gives : (old new : Core) (disk : Disk) (call : ScriptCall) {run given_up : PutRun} (turn : Turn PutRun)
+    → run.filled ≡ None → given_up ≡ run → GivesUpTurn old given_up new turn
+    → PutGoesOn (at_disk old disk) (at_disk new disk) call run turn
+put_gives old new disk call turn none same gives = grind arith
+
+-- ---- reads
+
+-- A turn that reads a column touches nothing.
+pub read_goes_on : (before after : CoreState) (run : GetRun) (turn : Turn GetRun) → ReadsTurn before run after turn
+    → Unchanged before.disk after.disk
+    → OnlyFailedGoOut (point_of before.core.pool.out before.disk) (point_of after.core.pool.out after.disk)
+    → TurnGoesOn before after
+read_goes_on before after run turn reads unchanged out =
+    let uber = reads_reaching before after run turn reads in record {
+      parity = ap (λ (u : Uber). u.parity) uber;
+      reach = ap (λ (u : Uber). u.reflow.to) uber;
+      rows = ap (λ (u : Uber). u.reflow.rows) uber;
+      later = unchanged.goes_on.later;
+      out = out;
+      only = search read_touches;
+    }
+
+-- A read is the core's still once its block is solved.
+pub read_of : {core : Core} {run solved : GetRun} → (solved ≡ run) ⊎ SolvesGet run solved → IsGetOf core run
+    → IsGetOf core solved
+read_of solves of = search arith
+
+-- A read of which all columns were read ends, its block solved where memory was there.
+pub read_ends : (old new : Core) (disk : Disk) {run solved : GetRun} (turn : Turn GetRun)
+    → (solved ≡ run) ⊎ SolvesGet run solved → run.read.row ≡ rows_of run.read.layout → EndsGet old solved new turn
+    → ReadGoesOn (at_disk old disk) (at_disk new disk) run turn
+read_ends old new disk turn solves done ends = grind arith
+
+-- ---- blocks that are made up in no turn
+
+-- A put's block can be made up of the bytes that it is asked to have.
+pub put_fillable : {core : Core} {run : PutRun} {content : List ℕ} → IsPutOf core run → length content ≡ run.len
+    → IsFillable (to_fill_of run) content
+put_fillable of len = search
+
+pub put_ahead : {core : Core} (call : ScriptCall) {run : PutRun} {block : ToFill} → MayGoOn core call (work.Put run)
+    → left_to_fill run run.filled ≡ Some block → IsFillable block (fill_bytes call.fill)
+put_ahead call may left = grind (arith, put_fillable)
+
+-- ---- attaches
+
+-- A turn of an attach is that of its call.
+pub attach_by : (before after : CoreState) (call : ScriptCall) (run : AttachRun) (turn : Turn AttachRun)
+    → StepsAttach before run after turn → IsMoreAttach after.core after.disk turn
+    → GoesOnBy before after call (work.Attach run) (attach_turn turn)
+attach_by before after call run turn steps of = grind arith
+
+-- ---- copies
+
+-- So is one of a copy.
+pub copy_by : (before after : CoreState) (call : ScriptCall) (round : CopyRound) (turn : Turn CopyRound)
+    → StepsCopy before round after turn → IsMoreRound after.core turn
+    → GoesOnBy before after call (work.Copy round) (copy_turn turn)
+copy_by before after call round turn steps of = grind arith
+
+-- One for whose next group memory is wanting ends there, and nothing is done.
+pub lacks_room : (state : CoreState) (call : ScriptCall) (does : Work) {made : Option ℕ} → made ≡ made_in does
+    → IsTrue (is_some made) → GoesOnBy state state call does (Done answer.NoMemory)
+lacks_room state call other is some = grind (arith, false≢true)
+
+-- So it goes on as every turn does,
+pub lacking_goes : (core : Core) (disk : Disk) (does : Work) {made : Option ℕ} → made ≡ made_in does
+    → IsTrue (is_some made) → WorkGoesOn does (at_disk core disk) (at_disk core disk)
+lacking_goes core disk (work.Copy round) is some = pool_goes refl
+lacking_goes core disk other is some = cc
+
+-- and room is left for its answer.
+pub lacking_room : (does : Work) {made : Option ℕ} {before after : ℕ} → made ≡ made_in does
+    → IsTrue (is_some made) → before ≤ after → MakesRoom does before after (Done answer.NoMemory)
+lacking_room does is some kept = grind (arith, false≢true)
+
+-- Where memory was there room is left for the next group and for what the turn lists.
+pub makes_room : (does : Work) {made : Option ℕ} (before : ℕ) {after : ℕ} (turn : Turn Work) → made ≡ made_in does
+    → before + taken_for made ≤ after → MakesRoom does before after turn
+makes_room does before turn is more = grind (arith, taken_one)
+
+-- A put that is filled in goes on by its next write, or by its last turn.
+pub put_writes : (before after : CoreState) (call : ScriptCall) {run filled : PutRun} (turn : Turn PutRun)
+    → IsFilledIn call run filled → WritesOn before filled after turn → PutGoesOn before after call run turn
+put_writes before after call turn fills on = grind arith

@@ -1,0 +1,10 @@
+pub mod Moments
+pub mod Beginning
+pub mod Coming
+pub mod Opened
+pub mod UsingOpened
+pub mod Whole
+pub mod Rooms
+pub mod AtRest
+pub mod Banks
+pub mod ListedGroups

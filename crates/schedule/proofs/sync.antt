@@ -1,0 +1,5 @@
+pub mod Begun
+pub mod Works
+pub mod Syncs
+pub mod Comes
+pub mod Goes
