@@ -1,9 +1,9 @@
 -- From the candidates of the chosen group to what an opening has to know.
-use Rattle.std.proofs.Common.{◌≡◌, ◌≢◌, ◌⊎◌, inl, inr, ⊎_elim, ℕ, ◌<◌, ◌≤◌, List, [], ◌∷◌, Some, true, false, Bool, eqb}
-use Rattle.std.proofs.Common.{eqb-true, eq-eqb, refl, sym, ◌∙◌, subst, arith}
+use Rattle.std.proofs.Common.{◌≡◌, ◌≢◌, ◌⊎◌, inl, inr, ⊎_elim, ℕ, ◌+◌, ◌<◌, ◌≤◌, List, [], ◌∷◌, Some, true, false, Bool}
+use Rattle.std.proofs.Common.{eqb, eqb-true, eq-eqb, refl, sym, ◌∙◌, subst, arith}
 use Rattle.std.specs.Prelude.{Contains, slice_get, ◌↔◌}
 use Rattle.std.specs.List.{Any, list_any}
-use Rattle.std.proofs.lemmas.Bool.{cases_Bool, false≢true}
+use Rattle.std.proofs.lemmas.Bool.{cases_Bool, cases_lt, false≢true}
 use Rattle.std.proofs.lemmas.List.Folds.{Any-from_list_any, list_any-from_Any}
 use Rattle.std.proofs.lemmas.List.Elements.{All-contains}
 use Rattle.bank_trait.specs.Disk.{Image}
@@ -11,12 +11,12 @@ use Rattle.block_record.specs.declared.entry.IndexEntry.{IndexEntry}
 use Rattle.uberblock_ring.specs.Devices.{has_device}
 use Rattle.uberblock_ring.specs.Uberblock.{Uber}
 use Rattle.core_state.specs.Shown.{Shape, Shows, IsCandidate, read_devices}
-use Rattle.core_state.specs.Choosing.{IsBlank, IsChosen, IsChosenPool, IsListedOut, IsOutAtOpening}
+use Rattle.core_state.specs.Choosing.{IsBlank, IsChosen, IsChosenPool, IsLeftBehind, IsListedOut, IsOutAtOpening}
 use Rattle.core_open.specs.declared.ring_uber.RingUber.{RingUber}
 use Rattle.core_open.specs.Candidates.{AreNewest}
 use Rattle.core_open.specs.RingUbers.{AreShown, AreTaken}
 use Rattle.core_open.specs.Finding.{ShowsTwin}
-use Rattle.core_open.specs.Sets.{IsNewDevice, IsOutBy, ShowPool, StandOn}
+use Rattle.core_open.specs.Sets.{IsNewDevice, IsOutBy, ShowNear, ShowPool, StandOn}
 use Rattle.core_open.proofs.Newest.{of_one_group}
 use Rattle.core_open.proofs.ReadTo.{ring_uber_on}
 
@@ -87,11 +87,22 @@ module _ (shape : Shape) (silent : ℕ) (image : Image) (all candidates : List R
   any_of : (P : RingUber → Type 0) (list : List RingUber) (ring_uber : RingUber) → Contains list ring_uber → P ring_uber → Any P list
   any_of P list ring_uber (k, low, there) has = (k, ring_uber, low, there, has)
 
+  -- An uberblock that stands on a device is shown there.
+  shows_on : (device : ℕ) (ring_uber : RingUber) → Contains all ring_uber → ring_uber.device ≡ device
+      → Shows shape image device ring_uber.uber
+  shows_on device ring_uber listed is = subst (λ d. Shows shape image d ring_uber.uber) is
+      (All-contains (λ (c : RingUber). Shows shape image c.device c.uber) all ring_uber shown.each listed)
+
+  on_device : (device : ℕ) → ShowPool all first.uber.pool device
+      → (uber : Uber) × Shows shape image device uber × (uber.pool ≡ first.uber.pool)
+  on_device device any = (any.1.uber, shows_on device any.1 (any.0, any.2, any.3) any.4.0, any.4.1)
+
   -- What is out by the lists is out at the opening,
   out_by : (taken : ℕ) → AreTaken shape silent image (read_devices shape) taken → (device : ℕ)
       → IsOutBy shape.devices silent taken all candidates first.uber device
       → IsListedOut shape silent image first.uber device ⊎ ((has_device silent device ≡ true)
-      ⊎ ((shape.devices ≤ device) ⊎ IsBlank shape image first.uber device))
+      ⊎ ((shape.devices ≤ device) ⊎ (IsBlank shape image first.uber device
+      ⊎ IsLeftBehind shape image first.uber device)))
   out_by taken marks device (inl (k, ring_uber, low, there, out)) =
       let listed : Contains candidates ring_uber = (k, low, there) in
       let good = sound ring_uber listed in inl (record {
@@ -105,37 +116,64 @@ module _ (shape : Shape) (silent : ℕ) (image : Image) (all candidates : List R
       })
   out_by taken marks device (inr (inl quiet)) = inr (inl quiet)
   out_by taken marks device (inr (inr (inl none))) = inr (inr (inl none))
-  out_by taken marks device (inr (inr (inr (nothing, old)))) = ⊎_elim
+  out_by taken marks device (inr (inr (inr (inl (nothing, old))))) = ⊎_elim
       (λ quiet. inr (inl quiet))
-      (λ works. inr (inr (inr (record {
+      (λ works. inr (inr (inr (inl (record {
         none = λ other shows of_pool. nothing (any_of
             (λ (ring_uber : RingUber). (ring_uber.device ≡ device) × (ring_uber.uber.pool ≡ first.uber.pool)) all (ring_uber_on device other)
             (shown.every device other shows.device_in works shows) (refl, of_pool));
         taken_if_new = λ none same. marks.each device (old (none, same));
-      }))))
+      })))))
+      (cases_Bool (has_device silent device))
+  out_by taken marks device (inr (inr (inr (inr (some, none_near))))) = ⊎_elim
+      (λ quiet. inr (inl quiet))
+      (λ works.
+      let at = on_device device some in
+      inr (inr (inr (inr (record {
+        shown = at.0;
+        shows = at.1;
+        pool_is = at.2;
+        behind = λ other shows of_pool. ⊎_elim (λ below. below)
+            (λ near. absurd (none_near (any_of
+            (λ (ring_uber : RingUber). (ring_uber.device ≡ device) × ((ring_uber.uber.pool ≡ first.uber.pool)
+            × (first.uber.group ≤ ring_uber.uber.group + 2))) all (ring_uber_on device other)
+            (shown.every device other shows.device_in works shows) (refl, (of_pool, near)))))
+            (cases_lt (other.group + 2) first.uber.group);
+      })))))
       (cases_Bool (has_device silent device))
 
   -- and what is out then is out by the lists.
   by_out : (taken : ℕ) → AreTaken shape silent image (read_devices shape) taken → (device : ℕ)
       → IsListedOut shape silent image first.uber device ⊎ ((has_device silent device ≡ true)
-      ⊎ ((shape.devices ≤ device) ⊎ IsBlank shape image first.uber device))
+      ⊎ ((shape.devices ≤ device) ⊎ (IsBlank shape image first.uber device
+      ⊎ IsLeftBehind shape image first.uber device)))
       → IsOutBy shape.devices silent taken all candidates first.uber device
   by_out taken marks device (inl listed) = inl (any_of (λ (ring_uber : RingUber). has_device ring_uber.uber.out device ≡ true) candidates
       (ring_uber_on listed.other listed.twin)
       (of_group listed.other listed.twin listed.entries listed.reads listed.candidate listed.group) listed.out)
   by_out taken marks device (inr (inl quiet)) = inr (inl quiet)
   by_out taken marks device (inr (inr (inl none))) = inr (inr (inl none))
-  by_out taken marks device (inr (inr (inr blank))) = ⊎_elim
+  by_out taken marks device (inr (inr (inr (inl blank)))) = ⊎_elim
       (λ quiet. inr (inl quiet))
-      (λ works. inr (inr (inr (
+      (λ works. inr (inr (inr (inl (
         (λ (any : ShowPool all first.uber.pool device).
-            let ring_uber = any.1 in
-            let shows : Shows shape image ring_uber.device ring_uber.uber =
-            All-contains (λ (c : RingUber). Shows shape image c.device c.uber) all ring_uber shown.each (any.0, any.2, any.3) in
-            blank.none ring_uber.uber (subst (λ d. Shows shape image d ring_uber.uber) any.4.0 shows) any.4.1),
+            let at = on_device device any in blank.none at.0 at.1 at.2),
         (λ (new : IsNewDevice first.uber.reflow device).
             let is = blank.taken_if_new new.0 new.1 in marks.every device is.device_in works is),
-      ))))
+      )))))
+      (cases_Bool (has_device silent device))
+  by_out taken marks device (inr (inr (inr (inr left)))) = ⊎_elim
+      (λ quiet. inr (inl quiet))
+      (λ works. inr (inr (inr (inr (
+        any_of (λ (ring_uber : RingUber). (ring_uber.device ≡ device) × (ring_uber.uber.pool ≡ first.uber.pool)) all
+            (ring_uber_on device left.shown) (shown.every device left.shown left.shows.device_in works left.shows)
+            (refl, left.pool_is),
+        (λ (any : ShowNear all first.uber.pool first.uber.group device).
+            let ring_uber = any.1 in
+            let behind = left.behind ring_uber.uber (shows_on device ring_uber (any.0, any.2, any.3) any.4.0) any.4.1.0 in
+            let near = any.4.1.1 in
+            omega (arith, behind, near)),
+      )))))
       (cases_Bool (has_device silent device))
 
   pub out_is : (taken : ℕ) → AreTaken shape silent image (read_devices shape) taken → (out : ℕ)

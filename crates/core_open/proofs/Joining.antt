@@ -1,12 +1,12 @@
 -- A group that joins others.
 use Rattle.std.proofs.Common.{◌≡◌, ℕ, ◌<◌, List, [], ◌∷◌, ◌++◌, sym, ◌∙◌, ap, subst, append_assoc}
 use Rattle.std.specs.Prelude.{Contains, AllPairs}
-use Rattle.bank_trait.specs.Disk.{Image, Disk}
+use Rattle.bank_trait.specs.Disk.{Disk}
 use Rattle.uberblock_ring.specs.Uberblock.{Uber}
 use Rattle.uberblock_ring.specs.Valid.{AreAlike}
 use Rattle.core_state.specs.Keeps.{Kept, Setting}
 use Rattle.core_state.specs.Certain.{IsCertain}
-use Rattle.core_state.specs.Moment.{KeepsSome, KeepsSince}
+use Rattle.core_state.specs.Moment.{KeepsRow, KeepsSince}
 use Rattle.core_state.proofs.Listed.{contains_head}
 use Rattle.core_state.proofs.Reader.{same_group}
 
@@ -15,11 +15,11 @@ pub since_longer : (setting : Setting) (groups more : List Kept) (time : ℕ) (d
     → KeepsSince setting groups time disk
     → KeepsSince setting (groups ++ more) time disk
 since_longer setting groups more time disk since = record {
-  each = λ moment image from until might. longer image (since.each moment image from until might);
+  each = λ moment from until. longer moment (since.each moment from until);
 }
   where
-    longer : (image : Image) → KeepsSome setting groups image → KeepsSome setting (groups ++ more) image
-    longer image some = record {
+    longer : (moment : ℕ) → KeepsRow setting groups disk moment → KeepsRow setting (groups ++ more) disk moment
+    longer moment some = record {
       before = some.before;
       first = some.first;
       later = some.later;

@@ -29,6 +29,7 @@ pub mod Renewal
 pub mod InOrder
 pub mod Written
 pub mod Unhindered
+pub mod OutFailed
 pub mod Finishing
 pub mod Seen
 pub mod Layouts
@@ -43,3 +44,4 @@ pub mod Framing
 pub mod Reopened
 pub mod Growing
 pub mod Answered
+pub mod GoingOn

@@ -80,14 +80,14 @@ pub unchanged_keeps : (setting : Setting) (first : Kept) (later joined : List Ke
     → Unchanged old new → BankKeeps setting first later old
     → KeepsSince setting ((first ∷ later) ++ joined) old.clock new
 unchanged_keeps setting first later joined {old = old} {new = new} same keeps = record {
-  each = λ moment image since until might. record {
+  each = λ moment since until. record {
     before = [];
     first = first;
     later = later;
     after = joined;
     row = refl;
     reach = setting.reach;
-    keeps = keeps image (might_at setting.shape new old moment old.clock image
+    keeps = λ image might. keeps image (might_at setting.shape new old moment old.clock image
         (at moment (omega (arith, since, until, same.clock)) (omega (arith, since, until, same.clock))) might);
   };
 }

@@ -1,7 +1,8 @@
 // Which devices of a pool are out when it is opened, and which lack its uberblock.
-ghost use Rattle.std.specs.Prelude.{◌≡◌, ◌^◌, ◌<◌, ◌≤◌, ◌↔◌, ℕ, true, false, IsTrue};
+ghost use Rattle.std.specs.Prelude.{◌≡◌, ◌⊎◌, ◌^◌, ◌<◌, ◌≤◌, ◌↔◌, ℕ, true, false, IsTrue};
 ghost use Rattle.uberblock_ring.specs.Devices.{has_device};
-ghost use Rattle.core_open.specs.Sets.{IsBlankBy, IsNewDevice, IsOutBy, ListOut, ShowPool, StandOn};
+ghost use Rattle.core_open.specs.Sets.{IsBehindBy, IsBlankBy, IsNewDevice, IsOutBy, ListOut, ShowNear, ShowPool};
+ghost use Rattle.core_open.specs.Sets.{StandOn};
 
 use crate::reading::Rings;
 use crate::ring_uber::RingUber;
@@ -55,7 +56,33 @@ fn is_out(devices: u32, rings: &Rings, candidates: &[RingUber], uber: &Uber, dev
     list_out(candidates, device)
         || rings.silent.has(device)
         || device >= devices
-        || is_blank(rings, uber, device)
+        || was_away(rings, uber, device)
+}
+
+/// Whether nothing of the pool stands on a device, or nothing that is recent.
+fn was_away(rings: &Rings, uber: &Uber, device: u32) -> bool
+    ensures { IsTrue result ↔ (IsBlankBy rings.now.taken rings.now.ubers.items uber.now device
+        ⊎ IsBehindBy rings.now.ubers.items uber.now device) }
+{
+    is_blank(rings, uber, device) || is_left_behind(&rings.ubers, uber, device)
+}
+
+/// Whether a device shows the pool, but missed its last groups: it is an older copy, or was away. A disk that
+/// works shows at least the group that was kept, and the chosen one is at most two above that.
+fn is_left_behind(ubers: &[RingUber], uber: &Uber, device: u32) -> bool
+    ensures { IsTrue result ↔ IsBehindBy ubers.now uber.now device }
+{
+    show_pool(ubers, uber.pool(), device) && !show_near(ubers, uber.pool(), uber.group(), device)
+}
+
+fn show_near(ubers: &[RingUber], pool: u64, group: u64, device: u32) -> bool
+    ensures { IsTrue result ↔ ShowNear ubers.now pool group device }
+{
+    ubers.iter().any(|ring_uber| {
+        ring_uber.device == device
+            && ring_uber.uber.pool() == pool
+            && group <= ring_uber.uber.group().saturating_add(2)
+    })
 }
 
 /// Whether nothing of the pool stands on a device that ought to have it. The new device of an attach need

@@ -17,6 +17,7 @@ pub mod Since
 pub mod Touched
 pub mod PoolChosen
 pub mod Chosen
+pub mod OutAtOpening
 pub mod Finding
 pub mod Created
 pub mod Joining

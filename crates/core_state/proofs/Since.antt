@@ -8,7 +8,7 @@ use Rattle.core_state.specs.Shown.{Shape}
 use Rattle.core_state.specs.Keeps.{Kept, Setting}
 use Rattle.core_state.specs.Collision.{MightStand}
 use Rattle.core_state.specs.Certain.{Knows}
-use Rattle.core_state.specs.Moment.{IsRowOf, KeepsSome, KeepsSince}
+use Rattle.core_state.specs.Moment.{IsRowOf, KeepsRow, KeepsSince}
 use Rattle.core_state.proofs.Keeping.{knows_keep}
 
 -- An image that might stand at a moment might stand at another one that leaves the same.
@@ -26,19 +26,34 @@ might_at shape disk other moment time image same might = record {
   };
 }
 
--- What is certain now says what each image of this moment keeps.
-pub some_now : (setting : Setting) (groups : List Kept) (first : Kept) (later : List Kept) (disk : Disk)
-    (image : Image) → IsRowOf groups first later → Knows setting first later disk
-    → MightStand setting.shape disk disk.clock image
-    → KeepsSome setting groups image
-some_now setting groups first later disk image row knows might = record {
+-- The images of a moment that leaves the same as another one keep its row.
+pub row_at : (setting : Setting) (groups : List Kept) (disk other : Disk) (moment time : ℕ)
+    → ((d x : ℕ) → (disk.leaves moment d x ≡ other.leaves time d x)
+    × (disk.could moment d x ≡ other.could time d x))
+    → KeepsRow setting groups other time
+    → KeepsRow setting groups disk moment
+row_at setting groups disk other moment time same kept = record {
+  before = kept.before;
+  first = kept.first;
+  later = kept.later;
+  after = kept.after;
+  row = kept.row;
+  reach = kept.reach;
+  keeps = λ image might. kept.keeps image (might_at setting.shape disk other moment time image same might);
+}
+
+-- What is certain now says what the images of this moment keep.
+pub row_now : (setting : Setting) (groups : List Kept) (first : Kept) (later : List Kept) (disk : Disk)
+    → IsRowOf groups first later → Knows setting first later disk
+    → KeepsRow setting groups disk disk.clock
+row_now setting groups first later disk row knows = record {
   before = row.before;
   first = first;
   later = later;
   after = row.after;
   row = row.row;
   reach = setting.reach;
-  keeps = knows_keep setting first later disk knows image might;
+  keeps = λ image might. knows_keep setting first later disk knows image might;
 }
 
 -- From now on.
@@ -46,9 +61,8 @@ pub since_now : (setting : Setting) (groups : List Kept) (first : Kept) (later :
     → IsRowOf groups first later → Knows setting first later disk
     → KeepsSince setting groups disk.clock disk
 since_now setting groups first later disk row knows = record {
-  each = λ moment image since until might. some_now setting groups first later disk image row knows
-      (might_at setting.shape disk disk moment disk.clock image (same moment (omega (arith, since, until)))
-      might);
+  each = λ moment since until. row_at setting groups disk disk moment disk.clock
+      (same moment (omega (arith, since, until))) (row_now setting groups first later disk row knows);
 }
   where
     same : (moment : ℕ) → moment ≡ disk.clock → (d x : ℕ)
@@ -62,12 +76,10 @@ pub since_more : (setting : Setting) (groups : List Kept) (since : ℕ) (first :
     → KeepsSince setting groups since old
     → KeepsSince setting groups since new
 since_more setting groups since first later old new row goes_on knows kept = record {
-  each = λ moment image from until might. ⊎_elim
-      (λ late. some_now setting groups first later new image row knows
-      (might_at setting.shape new new moment new.clock image
-      (λ d x. goes_on.present moment late until d x) might))
-      (λ early. kept.each moment image from early
-      (might_at setting.shape new old moment moment image
-      (λ d x. goes_on.later.past moment early d x) might))
+  each = λ moment from until. ⊎_elim
+      (λ late. row_at setting groups new new moment new.clock (λ d x. goes_on.present moment late until d x)
+      (row_now setting groups first later new row knows))
+      (λ early. row_at setting groups new old moment moment (λ d x. goes_on.later.past moment early d x)
+      (kept.each moment from early))
       (cases_lt old.clock moment);
 }

@@ -10,7 +10,7 @@ use Rattle.core_state.specs.Free.{IsSpare}
 use Rattle.core_state.specs.Moment.{IsRowOf, KeepsSince}
 use Rattle.core_state.proofs.Frames.{Frames, none_lost}
 use Rattle.core_state.proofs.Knowing.{knows_frame}
-use Rattle.core_state.proofs.Since.{some_now, might_at}
+use Rattle.core_state.proofs.Since.{row_at, row_now}
 
 module _ (P : ℕ → ℕ → Type 0) {old new : Disk} (touched : TouchesOnly P old new) where
   -- the disk as it was at a moment in between, but for what is read
@@ -46,14 +46,13 @@ module _ (P : ℕ → ℕ → Type 0) {old new : Disk} (touched : TouchesOnly P 
         → KeepsSince setting groups since old
         → KeepsSince setting groups since new
     touched_since groups since row kept = record {
-      each = λ moment image from until might. ⊎_elim
+      each = λ moment from until. ⊎_elim
           (λ late. let low : old.clock ≤ moment = omega (arith, late) in
-          some_now setting groups first later (disk_at moment) image row
+          row_at setting groups new (disk_at moment) moment moment (λ d x. (refl, refl))
+          (row_now setting groups first later (disk_at moment) row
           (knows_frame P none_lost setting first later old (disk_at moment) lawful
-          (frames_at moment low until) spare knows)
-          (might_at setting.shape new (disk_at moment) moment moment image (λ d x. (refl, refl)) might))
-          (λ early. kept.each moment image from early
-          (might_at setting.shape new old moment moment image
-          (λ d x. touched.later.past moment early d x) might))
+          (frames_at moment low until) spare knows)))
+          (λ early. row_at setting groups new old moment moment (λ d x. touched.later.past moment early d x)
+          (kept.each moment from early))
           (cases_lt old.clock moment);
     }

@@ -61,7 +61,7 @@ pub use Rattle.core_state.proofs.Frames.{Nowhere, none_lost, unchanged_frames}
 pub use Rattle.core_state.proofs.Knowing.{knows_frame}
 pub use Rattle.core_state.proofs.Listed.{contains_cases, contains_head, contains_none, contains_tail}
 pub use Rattle.core_state.proofs.Places.{IsDataSector, data_is_no_page, page_place}
-pub use Rattle.core_state.proofs.Since.{might_at, since_more}
+pub use Rattle.core_state.proofs.Since.{row_at, since_more}
 pub use Rattle.core_state.proofs.Touched.{touched_knows, touched_since}
 pub use Rattle.core_state.specs.Certain.{Asks, IsSound, Knows}
 pub use Rattle.core_state.specs.Committing.{Point, point_of}

@@ -70,7 +70,7 @@ fn the_second_half_alone_writes_no_index(rt: HostRuntime) {
 }
 
 #[test]
-fn copies_go_to_the_devices_that_lack_them(rt: HostRuntime) {
+fn a_group_is_spread_to_the_devices_that_lack_it(rt: HostRuntime) {
     let (page_lacks, uber_lacks) = (DeviceSet::from_bits(4), DeviceSet::from_bits(6));
     let mut copies = Commit::spread(3, 9, page_lacks, uber_lacks);
     let calls = [

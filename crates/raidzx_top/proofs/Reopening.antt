@@ -153,8 +153,8 @@ module _ (script : Script) (old new : Disk) (items : List Item) (out : ℕ) (run
       → IsLeft setting new moment image
       → IsReadBack setting run_groups image
   any_moment moment image since until left =
-      let some = keeps.any_moment.since.each moment image since until left.might in
-      read_back setting some.reach run_groups first some.first some.later image may.excepted left.only some.keeps
+      let some = keeps.any_moment.since.each moment since until in
+      read_back setting some.reach run_groups first some.first some.later image may.excepted left.only (some.keeps image left.might)
       (row_among (record { before = some.before; after = some.after; row = some.row })) keeps.parities all_bytes
 
   by_then : (count : ℕ) (some : 1 ≤ count) (all : count ≤ length items) (moment : ℕ) (image : Image)
@@ -163,11 +163,11 @@ module _ (script : Script) (old new : Disk) (items : List Item) (out : ℕ) (run
       → IsReadBack setting (last_groups (keeps.no_older.each count some all)) image
   by_then count some all moment image since until_then left =
       let until = keeps.no_older.each count some all in
-      let found = until.since.each moment image since until_then left.might in
+      let found = until.since.each moment since until_then in
       let part_hands : HandsBytes (handed_by script) (take count items) = record {
         each = λ index entry there. hands.each index entry (taken_there items count index entry there);
       } in
-      read_back setting found.reach (last_groups until) first found.first found.later image may.excepted left.only found.keeps
+      read_back setting found.reach (last_groups until) first found.first found.later image may.excepted left.only (found.keeps image left.might)
       (row_among (record { before = found.before; after = found.after; row = found.row }))
       (until.parity first (contains_head first later))
       (last_bytes (take count items) part_hands until.kept.group until.kept.last until.onward until.kept.last_is
@@ -219,8 +219,8 @@ module _ (setting : Setting) (first : Kept) (later : List Kept) (old : Disk) (ma
         joined = joined;
         adds = adds;
         any_moment = λ moment image from until left.
-            let some = since.each moment image from until left.might in
-            read_back setting some.reach ((first ∷ later) ++ joined) first some.first some.later image may.excepted left.only some.keeps
+            let some = since.each moment from until in
+            read_back setting some.reach ((first ∷ later) ++ joined) first some.first some.later image may.excepted left.only (some.keeps image left.might)
             (row_among (record { before = some.before; after = some.after; row = some.row })) joined_parity joined_bytes;
       }
 

@@ -64,7 +64,7 @@ pub use Rattle.core_state.specs.Keeps.{HaveParity, Kept, Setting}
 pub use Rattle.core_state.specs.Legal.{CallAt, GroupAt, IsAnswerOf, IsAnsweredGroup, IsGroupBefore, IsPrevious}
 pub use Rattle.core_state.specs.Legal.{IsReadOf, IsRightAttach, IsRightCall, IsRightCopy, IsRightFree, IsRightRead}
 pub use Rattle.core_state.specs.Map.{Map, PutBytes, SameMap, map_after, map_after_answer, map_of, with_block}
-pub use Rattle.core_state.specs.Moment.{AwaitsAttach, Groups, IsBegunAfter, IsGroupOf, IsRowOf, KeepsSince}
+pub use Rattle.core_state.specs.Moment.{AwaitsAttach, Groups, IsBegunAfter, IsGroupOf, IsRowOf, KeepsRow, KeepsSince}
 pub use Rattle.core_state.specs.Moment.{KeepsThroughout, groups_in, item_of}
 pub use Rattle.core_state.specs.Shown.{Shape, Shows}
 pub use Rattle.core_state.specs.World.{World}

@@ -237,5 +237,5 @@ encoded_tells uber other device place right good small low same =
 pub valid_tells : (uber other : Uber) (device place slot spot : ℕ) (bytes : List ℕ) → device < 2 ^ 32 → place < 2 ^ 32
     → IsValidIn uber device slot bytes → IsValidIn other place spot bytes → (uber ≡ other) × (device ≡ place) × (slot ≡ spot)
 valid_tells uber other device place slot spot bytes small low valid good =
-    let both = encoded_tells uber other device place valid.right good.right small low (sym valid.bytes_are ∙ good.copy) in
+    let both = encoded_tells uber other device place valid.right good.right small low (sym valid.bytes_are ∙ good.bytes_are) in
     (both.0, both.1, valid.slot_is ∙ ap (λ (u : Uber). slot_of u.group) both.0 ∙ sym good.slot_is)

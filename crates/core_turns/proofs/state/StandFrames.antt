@@ -1,7 +1,7 @@
 -- What a turn leaves of the map, of the groups, and of all that stands.
 use Rattle.core_turns.proofs.Words.{◌≡◌, ℕ, List, Option, Some, None, refl, ◌∙◌, arith, Contains, Disk, Lawful, Later}
 use Rattle.core_turns.proofs.Words.{Unchanged, tells_later, IndexEntry, IsWithin, Map, layout_of, Kept, Setting}
-use Rattle.core_turns.proofs.Words.{KeepsSince, Nowhere, none_lost, unchanged_frames, knows_frame, might_at, IsListed}
+use Rattle.core_turns.proofs.Words.{KeepsSince, Nowhere, none_lost, unchanged_frames, knows_frame, IsListed}
 use Rattle.core_turns.proofs.Words.{OnlyFailedGoOut, point_of, IsRightBlock, CommitRun, committing_unchanged, HoldsMap}
 use Rattle.core_turns.proofs.Words.{bank_later, count_grows, block_stays, Core, CoreState, pool_at, IsCommitOf}
 use Rattle.core_turns.proofs.Words.{hold_for, HoldingCall, actor_of, HoldsCall, LiesInPool, PutsSpare, GroupsStand}
@@ -9,6 +9,7 @@ use Rattle.core_turns.proofs.Words.{CommitStands, IsCommitting, Stands}
 use Rattle.core_turns.proofs.put.Places.{required_data}
 use Rattle.core_turns.proofs.state.Holds.{KeepsAlone, keeps_same}
 use Rattle.core_turns.proofs.state.Frames.{Leaves, AreOff, IsCallOff, OnlyOut, call_stays}
+use Rattle.core_turns.proofs.Words.{row_at}
 
 -- ---- the map
 
@@ -105,7 +106,9 @@ groups_read setting last begun calls (Some run) before after core same outs lawf
 pub since_read : (setting : Setting) (groups : List Kept) (time : ℕ) (old new : Disk) → Unchanged old new
     → KeepsSince setting groups time old → KeepsSince setting groups time new
 since_read setting groups time old new same since = record {
-  each = λ moment image from until might. since.each moment image from (omega arith) (search (might_at, arith));
+  each = λ moment from until. row_at setting groups new old moment moment
+      (λ d x. same.goes_on.later.past moment (omega (arith, until, same.clock)) d x)
+      (since.each moment from (omega (arith, until, same.clock)));
 }
 
 -- ---- all that stands

@@ -4,6 +4,7 @@ use Rattle.schedule.proofs.Words.{take, Contains, cases_lt, append-nil, take-app
 use Rattle.schedule.proofs.Words.{later_refl, later_trans, Item, Map, PutBytes, IsGroupBefore, Calls, Kept, Setting}
 use Rattle.schedule.proofs.Words.{Knows, IsGroupOf, IsBegunAfter, IsRowOf, KeepsSince, KeepsThroughout, knows_keep}
 use Rattle.schedule.proofs.Words.{since_now, KeepsUntil, HaveParityOf, KeepsTurnByTurn, KeepsOn, KeptSoFar, Past}
+use Rattle.schedule.proofs.Words.{KeepsRow}
 use Rattle.core_state.specs.declared.item.Group.{Group as GroupItem}
 
 -- The last group of a journal, and at most one that was begun after it, of the parity of the groups known.
@@ -19,8 +20,21 @@ pub record AreLatest (calls : Calls) (handed : PutBytes) (opening : Map) (known 
 pub since_any_reach : (setting : Setting) {groups : List Kept} {time : ℕ} {disk : Disk} {reach other : ℕ}
     → KeepsSince (record setting { reach = reach }) groups time disk
     → KeepsSince (record setting { reach = other }) groups time disk
-since_any_reach setting {groups = groups} {time = time} {disk = disk} {reach = reach} {other = other} kept = search
-    (kept.each, arith)
+since_any_reach setting {groups = groups} {time = time} {disk = disk} {reach = reach} {other = other} kept = record {
+  each = λ moment from until. row_of (kept.each moment from until);
+}
+  where
+    row_of : {moment : ℕ} → KeepsRow (record setting { reach = reach }) groups disk moment
+        → KeepsRow (record setting { reach = other }) groups disk moment
+    row_of row = record {
+      before = row.before;
+      first = row.first;
+      later = row.later;
+      after = row.after;
+      row = row.row;
+      reach = row.reach;
+      keeps = row.keeps;
+    }
 
 -- A group and those after it are a row of themselves.
 pub whole_row : (first : Kept) (later : List Kept) → IsRowOf (first ∷ later) first later
