@@ -22,7 +22,7 @@ impl Model for SharedColumns {
 }
 
 impl SharedColumns {
-    /// Where memory is wanting, the columns come back.
+    /// Where memory is exhausted, the columns come back.
     pub(crate) fn new(alloc: Global, columns: ColumnsRead) -> Result<SharedColumns, ColumnsRead>
         ensures ok { IfOk result (λ shared. shared ≡ columns) }
         ensures err { IfErr result (λ back. back ≡ columns) }

@@ -226,7 +226,7 @@ pub refused_cuts : (result : Result OpenedPool OpenWhy) (old new : Disk)
 refused_cuts (Ok opened) old new leaves = tt
 refused_cuts (Err why) old new leaves = refusal_cuts why old new leaves
 
--- Where memory was wanting for the index alone, all is kept as the opening left it.
+-- Where memory was exhausted for the index alone, all is kept as the opening left it.
 pub memory_cuts : (result : Result OpenedPool OpenWhy) (uber : Uber) (silent out : ℕ)
     (old new : Disk) → HaveFailed old new silent → AreOutOf old new silent uber out → count_of out ≤ uber.parity
     → IsWithinBelow uber.reflow.to silent uber.out → OpeningKeeps silent uber.out old new

@@ -45,3 +45,4 @@ pub mod Reopened
 pub mod Growing
 pub mod Answered
 pub mod GoingOn
+pub mod Adding

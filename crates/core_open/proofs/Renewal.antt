@@ -6,7 +6,7 @@ use Rattle.block_record.specs.declared.entry.IndexEntry.{IndexEntry}
 use Rattle.uberblock_ring.specs.Devices.{count_below, count_of}
 use Rattle.uberblock_ring.specs.Uberblock.{Uber}
 use Rattle.uberblock_ring.specs.Valid.{IsRightUber}
-use Rattle.uberblock_ring.proofs.DeviceSets.{count_above}
+use Rattle.uberblock_ring.proofs.DeviceSets.{count_within}
 use Rattle.core_state.specs.Committing.{Point}
 use Rattle.core_commit.specs.declared.committing.TooManyOut.{TooManyOut}
 use Rattle.core_commit.specs.Spread.{SpreadKeeps}

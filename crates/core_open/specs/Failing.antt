@@ -28,7 +28,7 @@ MayLose device old new before after =
     (after ≡ before)
     ⊎ ((after ≡ with_device before device) × FaultCounted (old.faults device) (new.faults device))
 
--- A read failed on a device outside the set, or memory was wanting.
+-- A read failed on a device outside the set, or memory was exhausted.
 abbrev pub HasStopped : ℕ → Disk → Disk → Stopped → Type 0
 HasStopped silent old new (Failed device) =
     (device < read_devices (shape_of old)) × (has_device silent device ≡ false)

@@ -20,3 +20,4 @@ pub mod NextGroup
 pub mod Answered
 pub mod Opening
 pub mod Stopped
+pub mod Adding

@@ -1,4 +1,4 @@
--- What a look at a pool tells, and when nothing but memory may be wanting to it.
+-- What a look at a pool tells, and when nothing but memory may be exhausted to it.
 use Rattle.std.specs.Prelude.{◌≡◌, ◌↔◌, ℕ, List, true}
 use Rattle.bank_trait.specs.Disk.{Image, Disk}
 use Rattle.block_record.specs.declared.entry.IndexEntry.{IndexEntry}
@@ -20,7 +20,7 @@ pub record IsSeenIn (shape : Shape) (image : Image) (look : Look) : Type 0 where
   pub out : (other : ℕ) → has_device look.out other ≡ true
       ↔ IsOutAtOpening shape look.silent image look.uber other
 
--- Where nothing hinders a look, nothing but memory may be wanting.
+-- Where nothing hinders a look, nothing but memory may be exhausted.
 abbrev pub IsLookForMemory : Disk → Disk → OpenWhy → Type 0
 IsLookForMemory old new why = (setting : Setting) (first : Kept) (later : List Kept)
     → IsInSight setting first later old new

@@ -59,7 +59,7 @@ pub record OpeningKeeps (silent borne : ℕ) (old new : Disk) : Type 0 where
       → (joined : List Kept) × AddsOne (first ∷ later) joined
       × KeepsSince setting ((first ∷ later) ++ joined) old.clock new
 
--- An opening was cut short when it had begun to write: too many devices failed, or memory was wanting for
+-- An opening was cut short when it had begun to write: too many devices failed, or memory was exhausted for
 -- what it had read.
 pub record CutsOpening (old new : Disk) : Type 0 where
   -- Devices were silent: each failed in it. But for them the devices choose a group of this width and parity.
@@ -172,7 +172,7 @@ pub record IsUnhindered (setting : Setting) (first : Kept) (later : List Kept) (
   pub works : NoneFails old new
   pub in_use : NoneIsOut old
 
--- Then nothing but memory may be wanting.
+-- Then nothing but memory may be exhausted.
 abbrev pub IsForMemory : Disk → Disk → OpenWhy → Type 0
 IsForMemory old new why = (setting : Setting) (first : Kept) (later : List Kept)
     → IsUnhindered setting first later old new

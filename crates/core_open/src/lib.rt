@@ -22,9 +22,9 @@ mod out;
 mod page_lack;
 mod pool;
 mod reading;
+mod ring_uber;
 mod sight;
 mod stopped;
-mod ring_uber;
 mod votes;
 mod why;
 

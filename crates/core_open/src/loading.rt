@@ -47,7 +47,7 @@ fn load(alloc: Global, uber: &Uber, entries: &[IndexEntry]) -> Result<Blocks, Al
 }
 
 /// Opens the pool that the devices show. A group that renews the one that is opened is written, two
-/// above it: it is the last one of the pool that is handed back. Where memory is wanting for its
+/// above it: it is the last one of the pool that is handed back. Where memory is exhausted for its
 /// blocks, that group has been written already.
 pub fn open_pool<B: Bank>(alloc: Global, bank: &mut B) -> Result<OpenedPool, OpenWhy>
     ensures bank { IfOk result (λ opened.

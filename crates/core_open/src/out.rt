@@ -105,7 +105,9 @@ fn is_new_device(reflow: &Reflow, device: u32) -> bool
 fn list_out(ubers: &[RingUber], device: u32) -> bool
     ensures { IsTrue result ↔ ListOut ubers.now device }
 {
-    ubers.iter().any(|ring_uber| ring_uber.uber.out().has(device))
+    ubers
+        .iter()
+        .any(|ring_uber| ring_uber.uber.out().has(device))
 }
 
 fn stand_on(ubers: &[RingUber], device: u32) -> bool
@@ -117,7 +119,5 @@ fn stand_on(ubers: &[RingUber], device: u32) -> bool
 fn show_pool(ubers: &[RingUber], pool: u64, device: u32) -> bool
     ensures { IsTrue result ↔ ShowPool ubers.now pool device }
 {
-    ubers
-        .iter()
-        .any(|ring_uber| ring_uber.device == device && ring_uber.uber.pool() == pool)
+    ubers.iter().any(|ring_uber| ring_uber.device == device && ring_uber.uber.pool() == pool)
 }

@@ -30,11 +30,7 @@ pub fn choose_pool(alloc: Global, rings: &Rings) -> Result<Option<u64>, AllocErr
     Ok(winner(&votes))
 }
 
-fn cast_votes(
-    alloc: Global,
-    ubers: &[RingUber],
-    silent: DeviceSet,
-) -> Result<Vec<Vote>, AllocError>
+fn cast_votes(alloc: Global, ubers: &[RingUber], silent: DeviceSet) -> Result<Vec<Vote>, AllocError>
     requires right { AreRight 16 ubers.now }
     requires order { AreByGroup ubers.now }
     ensures { IfOk result (λ votes. AreVotes ubers.now silent votes.items) }

@@ -32,7 +32,7 @@ pub clear_of_none : (holds : List Hold) (lo hi : ℕ) (kind : HoldKind) (first :
     → first ≡ None → IsClear holds lo hi kind
 clear_of_none holds lo hi kind first is none = subst (IsFirst holds lo hi kind) none is
 
--- Where none was in the way, the hold is granted or memory is wanting.
+-- Where none was in the way, the hold is granted or memory is exhausted.
 pub granted_clear : (holds : List Hold) (lo hi : ℕ) (kind : HoldKind) (result : Result Hold LockRefused) → IsClear holds lo hi kind
     → IfOk result (λ hold. IsClear holds lo hi kind)
 granted_clear holds lo hi kind (Ok hold) clear = clear

@@ -33,7 +33,7 @@ pub enum Wrong {
     Call,
     /// A call is not answered.
     Unanswered,
-    /// An answer is for another kind of call, or tells of something that was wanting.
+    /// An answer is for another kind of call, or tells of something that was lacking.
     Answer,
     /// A read answers no map that it may.
     Read,

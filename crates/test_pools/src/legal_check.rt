@@ -4,7 +4,7 @@ use crate::journaled::{Journaled, Wrong, call_of};
 use core_state::{Answer, Entry, Item, Kind};
 use sha2::{Digest, Sha256};
 
-/// Whether an answer is for such a call, where nothing is wanting.
+/// Whether an answer is for such a call, where nothing is lacking.
 fn is_answer_of(kind: Kind, answer: &Answer) -> bool {
     match answer {
         Answer::Stored => kind == Kind::Put,
