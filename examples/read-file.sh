@@ -1,41 +1,37 @@
 #!/usr/bin/env bash
-# Gives back a file that store-file.sh has kept, on standard output: read-file.sh FIRST IMAGE..
+# Writes a file that store-file.sh has stored to standard output: read-file.sh FIRST IMAGE..
 #
-# Its name is told on standard error. RAIDZX names the program, where it is not the one beside this folder.
-set -euo pipefail
-raidzx=${RAIDZX:-$(dirname "$0")/../raidzx}
-if [ $# -lt 2 ]; then
-  echo 'read-file.sh FIRST IMAGE..' >&2
-  exit 1
-fi
+# Nothing is written before all of its bytes are there, and have the SHA-256 of its head. Its name is told on standard
+# error.
+. "$(dirname "$0")/common.bash"
+[ $# -ge 2 ] || stop 'usage: read-file.sh FIRST IMAGE..'
 first=$1
 images=("${@:2}")
 
-# blocks FIRST LAST: the bytes of these blocks. Where one is not there, what is left of them is missing.
-blocks() {
-  { echo 'clients 1' && seq "$1" "$2" | sed 's/^/a get /'; } | "$raidzx" "${images[@]}" -- run |
-    sed -n 's/.* get [0-9]* at [0-9]* bytes //p' | tr -d '\n' | tr a-f A-F | basenc --base16 -d
+# get_all FIRST LAST: gets these blocks.
+get_all() {
+  { echo 'clients 1' && calls get "$1" "$2"; } >"$work/script"
+  carry_out "${images[@]}" -- run <"$work/script"
 }
 
-copy=$(mktemp)
-trap 'rm -f "$copy"' EXIT
-blocks "$first" "$first" >"$copy"
-{ IFS= read -r length && IFS= read -r -d '' name || true; } <"$copy"
-case ${length-} in
-  '' | *[!0-9]*)
-    echo "read-file: block $first is no file's first block" >&2
-    exit 1
-    ;;
-esac
-pieces=$(((length + 65535) / 65536))
-: >"$copy"
-for ((lot = 1; lot <= pieces; lot += 100)); do
-  last=$((lot + 99 < pieces ? lot + 99 : pieces))
-  blocks $((first + lot)) $((first + last)) >>"$copy"
-done
-if [ "$(wc -c <"$copy")" != "$length" ]; then
-  echo "read-file: not all blocks of $name are there" >&2
-  exit 1
+number FIRST "$first"
+look "${images[@]}"
+get_all "$first" "$first"
+bytes >"$work/head"
+if ! read_head "$work/head"; then
+  ! grep -q ' absent$' "$work/text" || stop "there is no block $first"
+  ! grep -q ' damaged$' "$work/text" || stop "block $first is damaged"
+  stop "block $first is not the head of a file"
 fi
-cat "$copy"
-echo "read-file: $name, $length bytes" >&2
+[ "$kind" = file ] || stop "block $first: $name was not stored to its end, store it again"
+: >"$work/copy"
+for ((at = 1; at <= pieces; at += lot)); do
+  get_all $((first + at)) $((first + (at + lot <= pieces ? at + lot - 1 : pieces)))
+  lost=$(sed -n 's/.* get \([0-9]* \)at [0-9]* \(absent\|damaged\)$/\1\2/p' "$work/text")
+  [ -z "$lost" ] || stop "$name can not be read, block $(head -n 1 <<<"$lost")"
+  bytes >>"$work/copy"
+done
+[ "$(wc -c <"$work/copy") $(sha256sum <"$work/copy" | cut -c 1-64)" = "$length $digest" ] ||
+  stop "$name: its blocks hold other bytes than were stored"
+cat "$work/copy"
+say "$name, $length bytes"
