@@ -1,5 +1,6 @@
 pub mod Core
 pub mod Steps
+pub mod TurnMap
 pub mod Getting
 pub mod Freeing
 pub mod Putting

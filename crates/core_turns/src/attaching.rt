@@ -114,10 +114,10 @@ impl Core {
         ensures goes_on { AttachGoesOn (at_disk self.old (B.disk bank.old))
             (at_disk self.new (B.disk bank.new)) }
     {
-        self.step_attach(alloc, bank, run)
+        self.take_attach_turn(alloc, bank, run)
     }
 
-    fn step_attach<B: Bank>(
+    fn take_attach_turn<B: Bank>(
         &mut self,
         alloc: Global,
         bank: &mut B,
@@ -259,7 +259,7 @@ impl Core {
             (at_disk self.new (B.disk bank.new)) result }
         ensures of { IsMoreAttach self.new (B.disk bank.new) result }
     {
-        match self.step_commit(bank, run) {
+        match self.make_commit_call(bank, run) {
             Turn::More(run) => Turn::More(AttachRun::Signs { run, why }),
             Turn::Done(Answer::Synced { group }) => {
                 let width = self.uber.reflow().to;

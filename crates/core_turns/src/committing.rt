@@ -138,10 +138,14 @@ impl Core {
         ensures goes_on { TurnGoesOn (at_disk self.old (B.disk bank.old))
             (at_disk self.new (B.disk bank.new)) }
     {
-        self.step_commit(bank, run)
+        self.make_commit_call(bank, run)
     }
 
-    pub(crate) fn step_commit<B: Bank>(&mut self, bank: &mut B, run: CommitRun) -> Turn<CommitRun>
+    pub(crate) fn make_commit_call<B: Bank>(
+        &mut self,
+        bank: &mut B,
+        run: CommitRun,
+    ) -> Turn<CommitRun>
         requires of { IsCommitOf self.old run }
         requires bank { HasBankOf self.old (B.disk bank.old) }
         ensures is { IsCore self.old }

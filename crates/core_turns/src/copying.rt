@@ -98,7 +98,7 @@ impl Core {
         ensures out { OnlyFailedGoOut (point_of self.old.pool.out (B.disk bank.old))
             (point_of self.new.pool.out (B.disk bank.new)) }
     {
-        self.step_job(bank, run)
+        self.make_job_call(bank, run)
     }
 
     /// The last turn of a job that has copied all its sectors: the front is behind them.
@@ -150,7 +150,7 @@ impl Core {
         }
     }
 
-    fn step_job<B: Bank>(&mut self, bank: &mut B, run: CopyRun) -> CopyRun
+    fn make_job_call<B: Bank>(&mut self, bank: &mut B, run: CopyRun) -> CopyRun
         requires of { IsJobOf self.old run }
         requires whole { self.old.pool.out ≡ 0 }
         requires left { run.job.made < call_count run.job.reflow run.job.job }

@@ -118,10 +118,10 @@ impl GetRun {
         ensures of { (core : CoreOf) → IsGetOf core self.old → IsGetOf core self.new }
         ensures err { OnErr result (self.new ≡ self.old) }
     {
-        self.solve_here(alloc)
+        self.solve_columns_read(alloc)
     }
 
-    fn solve_here(&mut self, alloc: Global) -> Result<(), OutOfMemory>
+    fn solve_columns_read(&mut self, alloc: Global) -> Result<(), OutOfMemory>
         requires len { sectors_for self.old.entry.len ≡ self.old.read.layout.sectors }
         ensures ok { OnOk result (SolvesGet self.old self.new) }
         ensures err { OnErr result (self.new ≡ self.old) }
@@ -152,7 +152,7 @@ impl Core {
         ensures bank { (disk : Disk) → HasBankOf self.old disk
             → HasBankOf self.new disk }
     {
-        self.begin_get(alloc, actor, kind, id)
+        self.find_and_hold(alloc, actor, kind, id)
     }
 
     /// The next column of a block that is read; or the answer, where too many devices are out, which ends the read.
@@ -171,7 +171,7 @@ impl Core {
         ensures out { OnlyFailedGoOut (point_of self.old.pool.out (B.disk bank.old))
             (point_of self.new.pool.out (B.disk bank.new)) }
     {
-        self.read_get(bank, run)
+        self.read_next_column(bank, run)
     }
 
     /// The last turn of a read: tells its block, once it was solved, or that memory was wanting for that. What was solved
@@ -183,10 +183,10 @@ impl Core {
         ensures tells { (content : List ℕ) (disk : Disk) → HoldsGet content (at_disk self.old disk) run.old
             → TellsGet content run.old (Done result) }
     {
-        self.end_get(run)
+        self.release_and_tell(run)
     }
 
-    fn begin_get(&mut self, alloc: Global, actor: u8, kind: Kind, id: u64) -> Turn<GetRun>
+    fn find_and_hold(&mut self, alloc: Global, actor: u8, kind: Kind, id: u64) -> Turn<GetRun>
         ensures { BeginsGet self.old self.new actor kind id result }
     {
         if self.has_too_many_out() {
@@ -215,7 +215,7 @@ impl Core {
         })
     }
 
-    fn read_get<B: Bank>(&mut self, bank: &mut B, run: &mut GetRun) -> Option<Answer>
+    fn read_next_column<B: Bank>(&mut self, bank: &mut B, run: &mut GetRun) -> Option<Answer>
         requires left { run.old.read.row < rows_of run.old.read.layout }
         requires of { IsGetOf self.old run.old }
         requires bank { HasBankOf self.old (B.disk bank.old) }
@@ -238,7 +238,7 @@ impl Core {
         None
     }
 
-    fn end_get(&mut self, run: &mut GetRun) -> Answer
+    fn release_and_tell(&mut self, run: &mut GetRun) -> Answer
         requires of { IsGetOf self.old run.old }
         ensures { EndsGetSo self.old self.new run.old result }
     {

@@ -202,7 +202,7 @@ impl Core {
         ensures out { OnlyFailedGoOut (point_of self.old.pool.out (B.disk bank.old))
             (point_of self.new.pool.out (B.disk bank.new)) }
     {
-        self.write_put(bank, run)
+        self.make_next_write(bank, run)
     }
 
     /// The last turn of a put, all of whose writes were made or passed over: its block stands in the map
@@ -246,7 +246,7 @@ impl Core {
         Answer::NoMemory
     }
 
-    fn write_put<B: Bank>(&mut self, bank: &mut B, run: &mut PutRun) -> Option<Answer>
+    fn make_next_write<B: Bank>(&mut self, bank: &mut B, run: &mut PutRun) -> Option<Answer>
         requires of { IsPutOf self.old run.old }
         requires under_way { IsUnderWay self.old.pool.blocks run.old.range }
         requires left { (filled : FilledOf) × (run.old.filled ≡ Some filled)

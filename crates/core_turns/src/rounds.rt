@@ -58,7 +58,7 @@ impl Core {
         ensures goes_on { TurnGoesOn (at_disk self.old (B.disk bank.old))
             (at_disk self.new (B.disk bank.new)) }
     {
-        self.step_copy(alloc, bank, round)
+        self.take_copy_turn(alloc, bank, round)
     }
 
     fn begin_round(&mut self, alloc: Global, actor: u8) -> Turn<CopyRound>
@@ -80,7 +80,7 @@ impl Core {
         }
     }
 
-    fn step_copy<B: Bank>(
+    fn take_copy_turn<B: Bank>(
         &mut self,
         alloc: Global,
         bank: &mut B,

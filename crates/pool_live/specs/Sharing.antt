@@ -12,7 +12,7 @@ use Rattle.pool_live.specs.declared.batch.Next.{Next}
 use Rattle.pool_live.specs.declared.batch.Next.TheVariants.{GoesOn}
 use Rattle.pool_live.specs.declared.live.Had.{Had}
 use Rattle.schedule.specs.declared.client.Client.{Client}
-use Rattle.schedule.specs.Ahead.{IsAheadFor}
+use Rattle.schedule.specs.Computing.{IsComputable}
 use Rattle.schedule.specs.Coming.{LeadTo}
 use Rattle.schedule.specs.InTurn.{HaveTaken}
 use Rattle.schedule.specs.Playing.{HaveHadTurns}
@@ -24,7 +24,7 @@ IsFreeSeat lock seat = (seat.lock ≡ lock.id) × (seat.holds ≡ false)
 
 -- What a client of these calls has before it can be computed, where there is anything to compute.
 abbrev pub IsNextFor : List ScriptCall → Next → Type 0
-IsNextFor calls (GoesOn ahead) = IsAheadFor calls ahead
+IsNextFor calls (GoesOn ahead) = IsComputable calls ahead
 IsNextFor calls other = ⊤
 
 -- the clients that had the turns that were told

@@ -3,7 +3,7 @@ ghost use Rattle.std.specs.Prelude.{◌≡◌, ◌≤◌, ℕ, List, All};
 ghost use Rattle.core_state.specs.declared.item.Item.{Item as ItemOf};
 ghost use Rattle.client_script.specs.Script.{IsAllowed, calls_of};
 ghost use Rattle.core_turns.specs.Core.{CoreState};
-ghost use Rattle.schedule.specs.Ahead.{IsReadyFor};
+ghost use Rattle.schedule.specs.Computing.{IsComputedFor};
 ghost use Rattle.schedule.specs.Live.{turns_in};
 ghost use Rattle.schedule.specs.Playing.{IsReady};
 ghost use Rattle.schedule.specs.Turns.{turns_of};
@@ -12,7 +12,7 @@ ghost use Rattle.pool_live.specs.Sharing.{IsFreeSeat, IsNextFor, MovesOn};
 use crate::live::{Had, Setup, Shared};
 use bank_trait::Bank;
 use client_script::Script;
-use schedule::{Ahead, Live, Progress, Ready, turn_of};
+use schedule::{Computed, Live, Progress, ToCompute, turn_of};
 use std::alloc::Global;
 use std::sync::Wait;
 use turn_lock::{Seat, Turns};
@@ -24,7 +24,7 @@ const MOST_AT_ONCE: u64 = 32;
 #[derive(Drop)]
 pub enum Next {
     /// A turn of its call under way, or its next call; and what can be computed for that first.
-    GoesOn(Ahead),
+    GoesOn(ToCompute),
     /// The first turn of its next call again, which found another's call in its way.
     Waits,
     /// Nothing: its calls are answered, or no more turns can be counted.
@@ -56,13 +56,13 @@ fn next_of(
     ensures next { IsNextFor (calls_of script.now actor) result }
 {
     if progress.is_busy(actor) {
-        Next::GoesOn(progress.ahead(alloc, script, actor))
+        Next::GoesOn(progress.to_compute(alloc, script, actor))
     } else if !progress.has_left(actor, script.calls(actor).len() as u64) {
         Next::Ended
     } else if now == before {
         Next::Waits
     } else {
-        Next::GoesOn(Ahead::Nothing)
+        Next::GoesOn(ToCompute::Nothing)
     }
 }
 
@@ -84,12 +84,12 @@ fn have_turns<B: Bank>(
     live: &mut Live<B>,
     script: &Script,
     actor: u8,
-    computed: Ready,
+    computed: Computed,
 ) -> Batch
     requires allowed { All (λ placed. IsAllowed placed.call) script.now.calls }
     requires ready { IsReady script.now
         (turns_in B.disk live.old) live.old.journal.room }
-    requires computed { IsReadyFor (calls_of script.now actor) computed }
+    requires computed { IsComputedFor (calls_of script.now actor) computed }
     ensures next { IsNextFor (calls_of script.now actor) result.next }
     ensures stands { MovesOn script.now
         (turns_in B.disk live.old)
@@ -114,7 +114,7 @@ fn have_turns<B: Bank>(
         let now = live.journal.len();
         answered += count_answered(&live.progress, actor, before, now);
         match next_of(alloc, &mut live.progress, script, actor, before, now) {
-            Next::GoesOn(Ahead::Nothing) => computed = Ready::Nothing,
+            Next::GoesOn(ToCompute::Nothing) => computed = Computed::Nothing,
             next => {
                 return Batch {
                     turns,
@@ -127,7 +127,7 @@ fn have_turns<B: Bank>(
     Batch {
         turns,
         answered,
-        next: Next::GoesOn(Ahead::Nothing),
+        next: Next::GoesOn(ToCompute::Nothing),
     }
 }
 
@@ -139,12 +139,12 @@ pub fn take_turns_of<R: Wait, B: Bank, J: Setup>(
     seat: &mut Seat<Shared<B, J>, Had>,
     script: &Script,
     actor: u8,
-    computed: Ready,
+    computed: Computed,
 ) -> Batch
     requires script { script.now ≡ J.script }
     requires allowed { All (λ placed. IsAllowed placed.call) script.now.calls }
     requires seat { IsFreeSeat turns.now seat.old }
-    requires computed { IsReadyFor (calls_of script.now actor) computed }
+    requires computed { IsComputedFor (calls_of script.now actor) computed }
     ensures seat { IsFreeSeat turns.now seat.new }
     ensures next { IsNextFor (calls_of script.now actor) result.next }
 {

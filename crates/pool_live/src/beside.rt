@@ -5,7 +5,7 @@ ghost use Rattle.core_state.specs.Journal.{CallsAreRight, IsComplete};
 ghost use Rattle.core_state.specs.declared.item.Item.{Item as ItemOf};
 ghost use Rattle.client_script.specs.Script.{IsAllowed, asked_by, calls_of};
 ghost use Rattle.core_turns.specs.Core.{CoreState, at_disk, HasBankOf};
-ghost use Rattle.schedule.specs.Ahead.{IsReadyFor};
+ghost use Rattle.schedule.specs.Computing.{IsComputedFor};
 ghost use Rattle.schedule.specs.declared.whole_run.Ended.TheVariants.{Whole, NoMemory, Limit};
 ghost use Rattle.schedule.specs.Live.{turns_in};
 ghost use Rattle.schedule.specs.Playing.{IsReady};
@@ -22,7 +22,7 @@ use client_script::Script;
 use core_state::Journal;
 use core_turns::Core;
 use crossbeam_utils::CachePadded;
-use schedule::{Carried, Ended, Live, Ready, UsedUp, begin, take_turns};
+use schedule::{Computed, Ended, Finished, Live, UsedUp, begin, take_turns};
 use std::alloc::Global;
 use std::marker::{Brand, PhantomData};
 use std::sync::Wait;
@@ -48,7 +48,7 @@ fn run_client<R: Wait, B: Bank, J: Setup, G: Gate>(
     if script.calls(actor).is_empty() {
         return seat;
     }
-    let mut computed = Ready::Nothing;
+    let mut computed = Computed::Nothing;
     for _ in rt.forever() {
         let batch = take_turns_of(rt, alloc, turns, &mut seat, script, actor, computed);
         pass_behind(rt, gate, actor, &batch);
@@ -56,7 +56,7 @@ fn run_client<R: Wait, B: Bank, J: Setup, G: Gate>(
             Next::GoesOn(ahead) => ahead.compute(alloc, script.calls(actor)),
             Next::Waits => {
                 yield_now();
-                Ready::Nothing
+                Computed::Nothing
             }
             Next::Ended => return seat,
         };
@@ -104,7 +104,7 @@ fn run_clients<R: Threads + Wait + Sync, B: Bank + Send, J: Setup + Send + Sync,
 }
 
 /// What the threads have left: calls under way go on in rounds, then the calls that are left follow.
-fn finish<B: Bank>(alloc: Global, mut live: Live<B>, script: &Script) -> Carried<B>
+fn finish<B: Bank>(alloc: Global, mut live: Live<B>, script: &Script) -> Finished<B>
     requires allowed { All (λ placed. IsAllowed placed.call) script.now.calls }
     requires actors { All (λ placed. placed.actor < script.now.clients) script.now.calls }
     requires ready { IsReady script.now
@@ -171,7 +171,7 @@ fn share<J: Setup + Send + Sync, R: Threads + Wait + Sync, B: Bank + Send, G: Ga
     live: Live<B>,
     script: &Script,
     gate: &G,
-) -> Carried<B>
+) -> Finished<B>
     requires script { script.now ≡ J.script }
     requires start { J.start ≡ Some (turns_in B.disk live) }
     requires allowed { All (λ placed. IsAllowed placed.call) script.now.calls }
@@ -201,7 +201,7 @@ pub fn carry_out_beside<R: Threads + Wait + Sync, B: Bank + Send, G: Gate + Sync
     script: &Script,
     gate: &G,
     mut journal: Journal,
-) -> Carried<B>
+) -> Finished<B>
     requires bank { HasBankOf core (B.disk bank) }
     requires rest { IsAtRest core }
     requires allowed { All (λ placed. IsAllowed placed.call) script.now.calls }
@@ -217,7 +217,7 @@ pub fn carry_out_beside<R: Threads + Wait + Sync, B: Bank + Send, G: Gate + Sync
         result.core (B.disk result.bank) result.journal.items }
 {
     let Ok(progress) = begin(alloc, script, &mut journal) else {
-        return Carried {
+        return Finished {
             bank,
             core,
             journal,

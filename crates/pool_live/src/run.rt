@@ -20,7 +20,7 @@ use client_script::{Script, add_copier};
 use core_open::{OpenWhy, open_pool};
 use core_state::{Item, Journal};
 use core_turns::Core;
-use schedule::{Carried, Ended, PoolRun, carry_out};
+use schedule::{Ended, Finished, PoolRun, carry_out};
 use std::alloc::Global;
 use std::sync::Wait;
 use std::thread::Threads;
@@ -37,7 +37,7 @@ fn carry_out_with<R: Threads + Wait + Sync, B: Bank + Send, G: Gate + Sync>(
     attaches: bool,
     gate: &G,
     journal: Journal,
-) -> Carried<B>
+) -> Finished<B>
     requires bank { HasBankOf core (B.disk bank) }
     requires rest { IsAtRest core }
     requires allowed { All (λ placed. IsAllowed placed.call) script.calls }
@@ -49,7 +49,7 @@ fn carry_out_with<R: Threads + Wait + Sync, B: Bank + Send, G: Gate + Sync>(
 {
     if attaches || core.reflow().expands() {
         let Ok(()) = add_copier(alloc, &mut script, attaches) else {
-            return Carried {
+            return Finished {
                 bank,
                 core,
                 journal,

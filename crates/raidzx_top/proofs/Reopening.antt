@@ -83,9 +83,9 @@ read_back setting reach groups opened first later image excepted only keeps amon
         → ReadsBack groups script items
     reads script old new items out run left missed bears = record {
       chosen = kept.chosen;
-      known = among kept.chosen kept.known;
-      legal = kept.legal;
-      sound = kept.sound;
+      known = among kept.chosen kept.origin.known;
+      legal = kept.journal.legal;
+      sound = kept.journal.sound;
     }
       where
         kept : RunKeeps script (record setting { reach = reach }) first later old new items run.parity run.silent (banks_of run)
@@ -109,13 +109,13 @@ module _ (script : Script) (old new : Disk) (items : List Item) (out : ℕ) (run
   known_bytes kept listed id content has = may.bytes kept id content listed has
 
   hands : HandsBytes (handed_by script) items
-  hands = script_hands script keeps.chosen.map items allowed keeps.legal
+  hands = script_hands script keeps.chosen.map items allowed keeps.journal.legal
 
   -- A group with the map of some items from the opening on,
   map_bytes : (part : List Item) → HandsBytes (handed_by script) part → (kept : Kept) (count : ℕ)
       → SameMap kept.map (map_after (handed_by script) keeps.chosen.map part count) → HoldsBytes kept.map
   map_bytes part part_hands kept count same id content has =
-      after_bytes (handed_by script) keeps.chosen.map part count part_hands (known_bytes keeps.chosen keeps.known)
+      after_bytes (handed_by script) keeps.chosen.map part count part_hands (known_bytes keeps.chosen keeps.origin.known)
       id content (sym (same id) ∙ has)
 
   -- one that was begun and not answered,
@@ -155,7 +155,7 @@ module _ (script : Script) (old new : Disk) (items : List Item) (out : ℕ) (run
   any_moment moment image since until left =
       let some = keeps.any_moment.since.each moment since until in
       read_back setting some.reach run_groups first some.first some.later image may.excepted left.only (some.keeps image left.might)
-      (row_among (record { before = some.before; after = some.after; row = some.row })) keeps.parities all_bytes
+      (row_among (record { before = some.before; after = some.after; row = some.row })) keeps.groups.parities all_bytes
 
   by_then : (count : ℕ) (some : 1 ≤ count) (all : count ≤ length items) (moment : ℕ) (image : Image)
       → (banks_of run count).clock ≤ moment → moment ≤ (banks_of run (count + 1)).clock
@@ -177,7 +177,7 @@ module _ (script : Script) (old new : Disk) (items : List Item) (out : ℕ) (run
       → IsReadBack setting (keeps.kept.last ∷ keeps.kept.begun) image
   at_end image left = read_back setting keeps.kept.reach (keeps.kept.last ∷ keeps.kept.begun) first keeps.kept.last keeps.kept.begun
       image may.excepted left.only (keeps.kept.keeps image left.might) (λ kept listed. listed)
-      (λ kept has. keeps.parities kept (keeps.kept_among kept has))
+      (λ kept has. keeps.groups.parities kept (keeps.groups.kept_among kept has))
       (last_bytes items hands keeps.kept.group keeps.kept.last keeps.kept.begun keeps.kept.last_is
       keeps.kept.begun_is)
 
@@ -185,7 +185,7 @@ module _ (script : Script) (old new : Disk) (items : List Item) (out : ℕ) (run
   pub survives_stops : SurvivesStops setting first later script old new items (banks_of run)
   survives_stops = record {
     opening = keeps.chosen.map;
-    legal = keeps.legal;
+    legal = keeps.journal.legal;
     groups = keeps.any_moment.groups;
     any_moment = any_moment;
     no_older = keeps.no_older;

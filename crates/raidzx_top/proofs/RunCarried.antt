@@ -86,9 +86,9 @@ module _ (order : Order) (call : TopCall) (lawful : Lawful call.old)
   -- The silent devices have failed.
   failed : HaveFailed call.old call.new run.silent
   failed device has =
-      let early = run.failed device has in
+      let early = run.opening.failed device has in
       let rose = early.1 in
-      let more = run.onward.faults device in
+      let more = run.turns.onward.faults device in
       (early.0, omega (arith, rose, more))
 
   -- What holds of the line's status and of the one after a fault holds of the status.
@@ -101,15 +101,15 @@ module _ (order : Order) (call : TopCall) (lawful : Lawful call.old)
 
   -- what the devices chose but for the silent ones, each of which failed
   abbrev shown_by : (image : Image) → HoldsImage call.old image → IsShownChoice call.old call.new image
-  shown_by image holds = record { silent = run.silent; failed = failed; choice = (run.each image holds).choice }
+  shown_by image holds = record { silent = run.silent; failed = failed; choice = (run.devices.each image holds).choice }
 
   -- the devices that a call lists which tells of too many
   many_listed : (index listed : ℕ) (entry : Entry) → CallAt call.journal index entry
       → entry.answer ≡ answer.TooManyFailed listed
       → (image : Image) → HoldsImage call.old image → AreTooMany call.old call.new image listed
   many_listed index listed entry there is image holds =
-      let each = run.each image holds in
-      let told = (run.fits index entry there).too_many listed is in
+      let each = run.devices.each image holds in
+      let told = (run.answers.fits index entry there).too_many listed is in
       let same = each.parity_is in
       record {
         shown = shown_by image holds;
@@ -122,8 +122,8 @@ module _ (order : Order) (call : TopCall) (lawful : Lawful call.old)
       → (image : Image) → HoldsImage call.old image → AreTooMany call.old call.new image out
   many_out (inl stopped) image holds = absurd stopped
   many_out (inr tells) image holds =
-      let each = run.each image holds in
-      let told = (run.fits tells.0 tells.1 tells.2).too_many tells.3.0 tells.3.1 in
+      let each = run.devices.each image holds in
+      let told = (run.answers.fits tells.0 tells.1 tells.2).too_many tells.3.0 tells.3.1 in
       let same = each.parity_is in
       let more = count_grows tells.3.0 out told.1 in
       record {
@@ -164,7 +164,7 @@ module _ (order : Order) (call : TopCall) (lawful : Lawful call.old)
   no_pool : FindsNoPool call (command_in order) → ⊥
   no_pool finds =
       let holds : HoldsImage call.old finds.image = held_at_entry call order finds.image finds.found in
-      let choice = (run.each finds.image holds).choice in
+      let choice = (run.devices.each finds.image holds).choice in
       let none : IsNotPool (shape_of call.old) run.silent finds.image =
       subst (λ (n : ℕ). IsNotPool (shape_of call.old) n finds.image)
       (sym (none_silent call.old call.new run.silent failed finds.quiet)) finds.none in
@@ -215,7 +215,7 @@ module _ (order : Order) (call : TopCall) (lawful : Lawful call.old)
     counted = was.done.counted;
     taken = was.done.taken;
     turns = was.turns_are;
-    lines = λ one. was.done.run.lines one (carried_actors_in order was.script was.done.carried was.done.run.opened
+    lines = λ one. was.done.run.answers.lines one (carried_actors_in order was.script was.done.carried was.done.run.opened
         was.done.carried_is was.read.clients was.read.actors);
     binds = λ setting first later failed may bears.
         was.done.run.keeps (setting_with setting failed) first later
@@ -239,7 +239,7 @@ module _ (order : Order) (call : TopCall) (lawful : Lawful call.old)
 
   -- A journal that has an item isn't empty.
   some_items : call.journal ≡ [] → ⊥
-  some_items none = apart (subst (λ (items : List Item). slice_get items 0 ≡ Some (Group run.opened)) none run.there)
+  some_items none = apart (subst (λ (items : List Item). slice_get items 0 ≡ Some (Group run.opened)) none run.opens.there)
     where
       apart : {item : Item} → slice_get [] 0 ≡ Some item → ⊥
       apart same = cc
@@ -260,7 +260,7 @@ module _ (order : Order) (call : TopCall) (lawful : Lawful call.old)
     none_out : (device : ℕ) → has_device out device ≡ true → ⊥
     none_out device has =
         let holds : HoldsImage call.old (present call.old) = present_held call.old smooth.may.may.tells in
-        let each = run.each (present call.old) holds in
+        let each = run.devices.each (present call.old) holds in
         let choice = each.choice in
         let silent = none_silent call.old call.new run.silent failed none_rose in
         ⊎_elim
@@ -273,35 +273,35 @@ module _ (order : Order) (call : TopCall) (lawful : Lawful call.old)
     keeps : RunKeeps was.done.carried smooth.setting smooth.first smooth.later call.old call.new call.journal run.parity run.silent (banks_of run)
     keeps = run.keeps smooth.setting smooth.first smooth.later smooth.may
         (λ device below has. absurd (none_rose device (failed device has).1))
-        (λ device has. absurd (none_out device (run.within device has)))
+        (λ device has. absurd (none_out device (run.bears.within device has)))
 
     -- Each answer is one for a client's call.
     of_client : (index : ℕ) (entry : Entry) → CallAt call.journal index entry → (asked : Kind) → entry.kind ≡ asked
         → IsClients asked
     of_client index entry there asked is = subst (λ (k : Kind). IsClients k) is
-        (answers_client was.done.carried (handed_by was.done.carried) keeps.chosen.map call.journal allowed keeps.legal index
+        (answers_client was.done.carried (handed_by was.done.carried) keeps.chosen.map call.journal allowed keeps.journal.legal index
         entry there).0
 
     answers : (index : ℕ) (entry : Entry) → CallAt call.journal index entry → (given : Answer) → entry.answer ≡ given
         → IsAnswerOf entry.kind given
     answers index entry there given is = subst (λ (a : Answer). IsAnswerOf entry.kind a) is
-        (answers_client was.done.carried (handed_by was.done.carried) keeps.chosen.map call.journal allowed keeps.legal index
+        (answers_client was.done.carried (handed_by was.done.carried) keeps.chosen.map call.journal allowed keeps.journal.legal index
         entry there).1
 
     is_smooth : (index : ℕ) (entry : Entry) → CallAt call.journal index entry → (given : Answer) → entry.answer ≡ given
         → IsSmoothAnswer given
-    is_smooth index entry there answer.Damaged is = keeps.sound index entry there is
+    is_smooth index entry there answer.Damaged is = keeps.journal.sound index entry there is
     is_smooth index entry there (answer.TooManyFailed listed) is =
         few listed (λ image holds. many_listed index listed entry there is image holds)
     is_smooth index entry there (answer.DeviceOut device) is =
         none_out device (subst (IsDeviceCause call.old.devices (IsDropCause call.old call.new out)) is
-        (run.fits index entry there).device)
+        (run.answers.fits index entry there).device)
     is_smooth index entry there (answer.NewDeviceFailed device) is =
         none_rose device (subst (IsDeviceCause call.old.devices (IsDropCause call.old call.new out)) is
-        (run.fits index entry there).device)
+        (run.answers.fits index entry there).device)
     is_smooth index entry there (answer.Paused device) is =
         none_out device (subst (IsDeviceCause call.old.devices (IsDropCause call.old call.new out)) is
-        (run.fits index entry there).device)
+        (run.answers.fits index entry there).device)
     is_smooth index entry there other is = tt
 
     completes : CompletesAll order call

@@ -167,6 +167,7 @@ pub use Rattle.core_turns.specs.Putting.{IsFillable, IsPutOf, IsPutRefused, IsSt
 pub use Rattle.core_turns.specs.Putting.{left_to_fill, to_fill_of}
 pub use Rattle.core_turns.specs.Rounds.{BeginsRound, IsMoreRound, IsRoundBusy, IsRoundOf, IsRoundRefused, StepsCopy}
 pub use Rattle.core_turns.specs.Steps.{turn_with}
+pub use Rattle.core_turns.specs.TurnMap.{MapsTurn}
 pub use Rattle.core_turns.specs.UnderWay.{AreCallsOf, Copying, GroupsStand, HoldingCall, Putting, Reading, SetsContent}
 pub use Rattle.core_turns.specs.UnderWay.{Stands, TurnGoesOn, actor_of, ranges_of, shown_in, shown_of}
 pub use Rattle.core_turns.specs.declared.attaching.AttachRun.{AttachRun}
@@ -212,7 +213,8 @@ pub use Rattle.journal_law.specs.Points.{point_after, read_point}
 pub use Rattle.schedule.specs.Caused.{AnswersAreCaused, FullIsCaused, IsAnswerCause}
 pub use Rattle.schedule.specs.Clients.{Changes, ClientsAreAnswered, answered_of}
 pub use Rattle.schedule.specs.Comes.{Comes, TakesTurn}
-pub use Rattle.schedule.specs.Coming.{AttachesNone, GoesOnFor, IsSchedule, IsWorldOf, KeepsUsing, LeadTo, StaysAsWide}
+pub use Rattle.schedule.specs.Coming.{AttachesNone, GoesOnFor, HasToBear, IsSchedule, IsWorldOf, KeepsUsing, LeadTo}
+pub use Rattle.schedule.specs.Coming.{StaysAsWide, StoodAt}
 pub use Rattle.schedule.specs.Dropping.{HasDropCause, IsDropCause, IsToBeTold, WillTell}
 pub use Rattle.schedule.specs.Fitting.{FitsCall, FitsSince, IsDeviceCause, IsGroupKind}
 pub use Rattle.schedule.specs.InTurn.{Cursor, Goes, HasGone, HaveTaken, InOrder, InRest, InRound, IsCallOfScript}
@@ -234,9 +236,9 @@ pub use Rattle.schedule.specs.Running.{calls_under_way, commit_in, held_by, held
 pub use Rattle.schedule.specs.Turned.{AnswersAtOnce, Began, BeginsCall, BeginsWork, EndsPutting, EndsReading, Frees}
 pub use Rattle.schedule.specs.Turned.{GoesOnBy, GoesOnPutting, GoesOnReading, HasDeviceFor, HasDeviceUnder, HasTableOf}
 pub use Rattle.schedule.specs.Turned.{IsFilledIn, LacksRoom, LeavesBegun, LeavesGoing, MayGoOn, Nothing, PutGoesOn}
-pub use Rattle.schedule.specs.Turned.{ReadGoesOn, Station, Turned, Waits, Went, WorkGoesOn, WritesOn, attach_turn}
-pub use Rattle.schedule.specs.Turned.{copy_turn, entry_for, group_by, group_for, group_with, listed_for, listed_of}
-pub use Rattle.schedule.specs.Turned.{listed_on, listed_with, read_turn, station_of}
+pub use Rattle.schedule.specs.Turned.{ReadGoesOn, TurnState, Turned, Waits, Went, WorkGoesOn, WritesOn}
+pub use Rattle.schedule.specs.Turned.{entry_for, group_by, group_for, group_with, listed_for, listed_of}
+pub use Rattle.schedule.specs.Turned.{listed_on, listed_with, turn_state}
 pub use Rattle.schedule.specs.Turns.{AreListedWith, IsListedWith, TurnTaken, Turns, bank_when, last_left, most_turns}
 pub use Rattle.schedule.specs.Turns.{taken_by, turns_of}
 pub use Rattle.schedule.specs.Using.{AreAtMost, AreLeft, AreRunsOf, AreUsed, HasToldWidths, HasUsedRuns, IsHeldIn}

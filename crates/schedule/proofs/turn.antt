@@ -21,6 +21,6 @@ pub mod Going
 pub mod LeavesPool
 pub mod Comes
 pub mod Law
-pub mod Stations
+pub mod TurnStates
 pub mod Holders
 pub mod Shared

@@ -67,42 +67,59 @@ pub record IsWorldOf (script : Script) (world : World) : Type 0 where
   pub calls : world.calls ≡ asked_by script
   pub handed : world.handed ≡ handed_by script
 
--- These turns lead from one state to another, in a pool that reaches to no fewer devices. Devices went out where they
--- failed, and none was touched but those in use that the pool then reaches to, and the one behind them, which an attach
--- may have laid a group without its joining. Where no call of the script is an attach, the pool reaches to as many
--- devices as before, and none was touched but these. What was answered fits its call, what an attach under way goes on
--- to tell has its cause, and groups are numbered. The devices whose failure has to be borne were out when it began, or
--- have failed, and are no more than there are parities; none where too many were out then, since no device is called any
--- more. Where these may fail, what stood stands, and answers that the table is full have their cause.
-pub record LeadTo (script : Script) (start : Turns) (passed : List TurnTaken) (now : Turns) : Type 0 where
-  pub ends : last_left start passed ≡ now
-  pub later : Later start.state.disk now.state.disk
-  pub parity : now.state.core.pool.uber.parity ≡ start.state.core.pool.uber.parity
-  pub reach : start.state.core.reach ≤ now.state.core.reach
-  pub only : TouchesOnly (IsOnInUse (now.state.core.reach + 1) start.state.core.pool.out)
-      start.state.disk now.state.disk
-  pub same : AttachesNone script → StaysAsWide start.state now.state
-  pub out : OnlyFailedGoOut (point_of start.state.core.pool.out start.state.disk)
-      (point_of now.state.core.pool.out now.state.disk)
+-- The pool goes on, and reaches to no fewer devices. Devices went out where they failed, and none was touched but those in
+-- use that the pool then reaches to, and the one behind them, which an attach may have laid a group without its joining.
+-- Where no call of the script is an attach, the pool is as wide as before.
+pub record PoolGoesOn (script : Script) (before after : CoreState) : Type 0 where
+  pub later : Later before.disk after.disk
+  pub parity : after.core.pool.uber.parity ≡ before.core.pool.uber.parity
+  pub reach : before.core.reach ≤ after.core.reach
+  pub only : TouchesOnly (IsOnInUse (after.core.reach + 1) before.core.pool.out) before.disk after.disk
+  pub same : AttachesNone script → StaysAsWide before after
+  pub out : OnlyFailedGoOut (point_of before.core.pool.out before.disk) (point_of after.core.pool.out after.disk)
+
+-- The journal keeps what was listed. What was answered since fits its call, what an attach under way goes on to tell has
+-- its cause, and groups are numbered.
+pub record JournalGoesOn (start now : Turns) : Type 0 where
   pub listed : (index : ℕ) (item : Item) → slice_get start.items index ≡ Some item
       → slice_get now.items index ≡ Some item
   pub fits : (index : ℕ) (entry : Entry) → CallAt now.items index entry
-      → CallAt start.items index entry
-      ⊎ FitsSince start now entry
+      → CallAt start.items index entry ⊎ FitsSince start now entry
   pub dropped : (cause : WhyDropped) → IsToBeTold now.clients cause → HasDropCause start now cause
-  pub borne : ℕ
-  pub few : count_of borne ≤ start.state.core.pool.uber.parity
-  pub from_start : count_of start.state.core.pool.out ≤ start.state.core.pool.uber.parity
-      → IsWithin start.state.core.pool.out borne
-  pub stopped : start.state.core.pool.uber.parity < count_of start.state.core.pool.out → IsWithin borne 0
-  pub within : IsWithin borne now.state.core.pool.out
-  pub runs : (world : World) (past : Past) → IsWorldOf script world
-      → Runs world script past start.state start.items start.clients
-      → IsWithin borne world.setting.failed → AreListedWith past.banks start passed
-      → Runs world script past now.state now.items now.clients
-  pub full : (world : World) (past : Past) → IsWorldOf script world
-      → Runs world script past start.state start.items start.clients
-      → IsWithin borne world.setting.failed → AreListedWith past.banks start passed
-      → FullIsCaused script world.opening start.items → FullIsCaused script world.opening now.items
-  pub space : KeepsUsing script start now
   pub numbers : IsNumbered start.items start.state.core → IsNumbered now.items now.state.core
+
+-- These devices' failure has to be borne: all that were out at first, and no more than there are parities; they were out
+-- then, or have failed since. Where too many were out at first there are none, since no device is called any more.
+pub record HasToBear (before after : CoreState) (borne : ℕ) : Type 0 where
+  pub few : count_of borne ≤ before.core.pool.uber.parity
+  pub from_start : count_of before.core.pool.out ≤ before.core.pool.uber.parity
+      → IsWithin before.core.pool.out borne
+  pub stopped : before.core.pool.uber.parity < count_of before.core.pool.out → IsWithin borne 0
+  pub within : IsWithin borne after.core.pool.out
+
+-- The banks with which these turns listed items are a run's, in a world of this script in which these devices may fail,
+-- and which stood at the start.
+pub record StoodAt (script : Script) (start : Turns) (passed : List TurnTaken) (borne : ℕ) (world : World)
+    (past : Past) : Type 0 where
+  pub world_of : IsWorldOf script world
+  pub stood : Runs world script past start.state start.items start.clients
+  pub borne_in : IsWithin borne world.setting.failed
+  pub with_banks : AreListedWith past.banks start passed
+
+-- What stood at the start stands, and answers that the table is full have their cause.
+pub record StandsOn (script : Script) (start : Turns) (passed : List TurnTaken) (now : Turns) (borne : ℕ) : Type 0 where
+  pub runs : (world : World) (past : Past) → StoodAt script start passed borne world past
+      → Runs world script past now.state now.items now.clients
+  pub full : (world : World) (past : Past) → StoodAt script start passed borne world past
+      → FullIsCaused script world.opening start.items → FullIsCaused script world.opening now.items
+
+-- These turns lead from one state to another.
+pub record LeadTo (script : Script) (start : Turns) (passed : List TurnTaken) (now : Turns) : Type 0 where
+  pub ends : last_left start passed ≡ now
+  pub pool : PoolGoesOn script start.state now.state
+  pub journal : JournalGoesOn start now
+  pub space : KeepsUsing script start now
+  -- Where the devices may fail whose failure has to be borne, what stood stands.
+  pub borne : ℕ
+  pub bears : HasToBear start.state now.state borne
+  pub stands : StandsOn script start passed now borne

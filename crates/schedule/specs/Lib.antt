@@ -12,7 +12,7 @@ pub mod Fitting
 pub mod Coming
 pub mod Turned
 pub mod Comes
-pub mod Ahead
+pub mod Computing
 pub mod InTurn
 pub mod Live
 pub mod OfLines

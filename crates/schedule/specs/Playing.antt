@@ -57,7 +57,7 @@ abbrev pub UsesRoom : ℕ → ℕ → Client → Client → Type 0
 UsesRoom before after old new = before + taken_of old ≤ after + taken_of new
 
 -- So much room was left when a turn of a work had come to this, before it listed anything: more by that of the next
--- group of a copy that had made one; where memory was wanting for it, no less, and the answer comes without a group.
+-- group of a copy that had made one; where there was no memory for it, no less, and the answer comes without a group.
 abbrev pub MakesRoom : Work → ℕ → ℕ → Turn Work → Type 0
 MakesRoom does before after (More next) = before + taken_for (made_in does) ≤ after
 MakesRoom does before after (Busy by) = ⊤
@@ -130,7 +130,7 @@ pub record HasRunOutOfTurns (script : Script) (start : Replay) (turns : Turns) (
 
 -- ---- at the end
 
--- How a replay ends: each call is answered; or memory was wanting before the first turn, and nothing was done; or no
+-- How a replay ends: each call is answered; or there was no memory before the first turn, and nothing was done; or no
 -- more turns can be counted.
 abbrev pub EndsAs : Script → Replay → List TurnTaken → Replay → Ended → Type 0
 EndsAs script start passed now Whole = HasGone script start passed now × (now.cursor ≡ InRest (length script.calls))

@@ -18,7 +18,6 @@ use Rattle.core_blocks.specs.Kept.{NoneFree}
 use Rattle.block_record.specs.declared.entry.IndexEntry.{IndexEntry}
 use Rattle.block_table.specs.Table.{IsTable}
 use Rattle.core_client.specs.BlockTurns.{IsAtColumn}
-use Rattle.core_commit.specs.CommitTurns.{CommitRun}
 use Rattle.client_script.specs.declared.call.ScriptCall.{ScriptCall}
 use Rattle.client_script.specs.Lines.{fill_bytes}
 use Rattle.core_turns.specs.declared.getting.GetRun.{GetRun}
@@ -31,7 +30,6 @@ use Rattle.core_turns.specs.Getting.{IsReadKind, IsGetOf, BeginsGet, ReadsTurn, 
 use Rattle.core_turns.specs.Freeing.{FreesBlock}
 use Rattle.core_turns.specs.Putting.{IsPutOf, BeginsPutTurn, FillsPut, WritesTurn, EndsPut, GivesUpTurn}
 use Rattle.core_turns.specs.Committing.{IsCommitOf, BeginsCommit, StepsCommit}
-use Rattle.core_turns.specs.declared.attaching.AttachRun.{AttachRun}
 use Rattle.core_turns.specs.Attaching.{AttachGoesOn, BeginsAttach, HasNewDevice, IsAttachRunOf, StepsAttach}
 use Rattle.core_turns.specs.declared.rounds.CopyRound.{CopyRound}
 use Rattle.core_turns.specs.declared.rounds.CopyRound.TheVariants.{Rests}
@@ -43,34 +41,6 @@ use Rattle.schedule.specs.declared.client.UnderWay.{UnderWay}
 use Rattle.schedule.specs.declared.client.Work.{Work}
 use Rattle.schedule.specs.declared.client.Work.TheVariants as work
 use Rattle.schedule.specs.Works.{begun_at, commit_in, made_by, made_in}
-
--- ---- the turns of works
-
--- a put's turn, a read's, a commit's, an attach's and a copy's, as that of a call
-abbrev pub put_turn : Turn PutRun → Turn Work
-put_turn (More run) = More (work.Put run)
-put_turn (Busy by) = Busy by
-put_turn (Done given) = Done given
-
-abbrev pub read_turn : Turn GetRun → Turn Work
-read_turn (More run) = More (work.Read run)
-read_turn (Busy by) = Busy by
-read_turn (Done given) = Done given
-
-abbrev pub sync_turn : Turn CommitRun → Turn Work
-sync_turn (More run) = More (work.Sync run)
-sync_turn (Busy by) = Busy by
-sync_turn (Done given) = Done given
-
-abbrev pub attach_turn : Turn AttachRun → Turn Work
-attach_turn (More run) = More (work.Attach run)
-attach_turn (Busy by) = Busy by
-attach_turn (Done given) = Done given
-
-abbrev pub copy_turn : Turn CopyRound → Turn Work
-copy_turn (More round) = More (work.Copy round)
-copy_turn (Busy by) = Busy by
-copy_turn (Done given) = Done given
 
 -- ---- first turns
 
@@ -132,7 +102,7 @@ HasTableOf core other = ⊤
 abbrev pub IsFilledIn : ScriptCall → PutRun → PutRun → Type 0
 IsFilledIn call run filled = (filled ≡ run) ⊎ ((run.filled ≡ None) × FillsPut run filled (fill_bytes call.fill))
 
--- A put goes on, once it is filled in, or is given up where memory is wanting for that.
+-- A put goes on, once it is filled in, or is given up where there is no memory for that.
 pub record GoesOnPutting (before after : CoreState) (call : ScriptCall) (run next : PutRun) : Type 0 where
   pub filled : PutRun
   pub fills : IsFilledIn call run filled
@@ -248,22 +218,22 @@ listed_on widths items at (Some number) = items ++ Group (group_with widths at n
 -- ---- a turn
 
 -- the core with its disk, the journal's items, and what a client has come to
-pub record Station : Type 0 where
+pub record TurnState : Type 0 where
   pub state : CoreState
   pub items : List Item
   pub client : Client
 
-abbrev pub station_of : Core → Disk → List Item → Client → Station
-station_of core disk items client = record { state = at_disk core disk; items = items; client = client }
+abbrev pub turn_state : Core → Disk → List Item → Client → TurnState
+turn_state core disk items client = record { state = at_disk core disk; items = items; client = client }
 
 -- The client has begun all its calls, and none is under way.
-pub record HasNothingLeft (calls : List ScriptCall) (before after : Station) : Type 0 where
+pub record HasNothingLeft (calls : List ScriptCall) (before after : TurnState) : Type 0 where
   pub idle : before.client.under_way ≡ None
   pub none : length calls ≤ before.client.begun
   pub same : after ≡ before
 
 -- The client's next call begins, waits, or is answered at once.
-pub record BeginsNext (calls : List ScriptCall) (actor : ℕ) (before after : Station) (turn : Turn Work) : Type 0 where
+pub record BeginsNext (calls : List ScriptCall) (actor : ℕ) (before after : TurnState) (turn : Turn Work) : Type 0 where
   pub idle : before.client.under_way ≡ None
   pub call : ScriptCall
   pub next : slice_get calls before.client.begun ≡ Some call
@@ -278,7 +248,7 @@ WorkGoesOn (work.Attach run) before after = AttachGoesOn before after × (HasBan
 WorkGoesOn other before after = TurnGoesOn before after
 
 -- The client's call under way goes on, or is answered.
-pub record CallGoesOn (calls : List ScriptCall) (before after : Station) (under : UnderWay) (turn : Turn Work) : Type 0 where
+pub record CallGoesOn (calls : List ScriptCall) (before after : TurnState) (under : UnderWay) (turn : Turn Work) : Type 0 where
   pub going : before.client.under_way ≡ Some under
   pub call : ScriptCall
   pub is : slice_get calls (before.client.begun - 1) ≡ Some call
@@ -287,7 +257,7 @@ pub record CallGoesOn (calls : List ScriptCall) (before after : Station) (under 
   pub core : IsCore after.state.core
 
 -- what the client is then, and what the journal has
-abbrev pub LeavesBegun : ℕ → ScriptCall → Station → Station → Turn Work → Type 0
+abbrev pub LeavesBegun : ℕ → ScriptCall → TurnState → TurnState → Turn Work → Type 0
 LeavesBegun actor call before after (More does) = (after.items ≡ before.items)
     × (after.client ≡ record {
       begun = before.client.begun + 1;
@@ -299,15 +269,20 @@ LeavesBegun actor call before after (Done given) =
     ++ Call (entry_for call actor (before.client.begun + 1) (length before.items) given) ∷ [])
     × (after.client ≡ record { begun = before.client.begun + 1; under_way = None })
 
-abbrev pub LeavesGoing : ℕ → ScriptCall → Station → Station → UnderWay → Turn Work → Type 0
+-- a call under way once a turn has left it with this work, when the journal had so many items: its group began then, where
+-- its commit begins in that turn
+abbrev pub gone_on : UnderWay → ℕ → Work → UnderWay
+gone_on under now does = record {
+  at = begun_at (commit_in does) (commit_in under.work) under.at now;
+  work = does;
+}
+
+abbrev pub LeavesGoing : ℕ → ScriptCall → TurnState → TurnState → UnderWay → Turn Work → Type 0
 LeavesGoing actor call before after under (More does) = (after.items ≡ listed_on after.state.core.pool.uber.reflow
-    before.items (begun_at (commit_in does) (commit_in under.work) under.at (length before.items)) (made_in does))
+    before.items (gone_on under (length before.items) does).at (made_in does))
     × (after.client ≡ record {
       begun = before.client.begun;
-      under_way = Some (record {
-        at = begun_at (commit_in does) (commit_in under.work) under.at (length before.items);
-        work = does;
-      });
+      under_way = Some (gone_on under (length before.items) does);
     })
 LeavesGoing actor call before after under (Busy by) = ⊥
 LeavesGoing actor call before after under (Done given) =
@@ -316,7 +291,7 @@ LeavesGoing actor call before after under (Done given) =
     × (after.client ≡ record { begun = before.client.begun; under_way = None })
 
 -- a turn of a client
-pub data Turned (calls : List ScriptCall) (actor : ℕ) (before after : Station) : Type 0 where
+pub data Turned (calls : List ScriptCall) (actor : ℕ) (before after : TurnState) : Type 0 where
   Nothing : HasNothingLeft calls before after → Turned calls actor before after
   Began : (turn : Turn Work) (begins : BeginsNext calls actor before after turn)
       → LeavesBegun actor begins.call before after turn → Turned calls actor before after

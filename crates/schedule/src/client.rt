@@ -5,11 +5,11 @@ ghost use Rattle.core_turns.specs.Core.{Core as CoreOf};
 ghost use Rattle.schedule.specs.declared.client.UnderWay.{UnderWay as UnderWayOf};
 ghost use Rattle.core_turns.specs.declared.rounds.CopyRound.TheVariants.{Rests};
 ghost use Rattle.schedule.specs.declared.client.Work.TheVariants as work;
-ghost use Rattle.schedule.specs.Ahead.{IsAheadFor, IsAskedBy, IsAskedOf, MayGoOnAs};
+ghost use Rattle.schedule.specs.Computing.{IsComputable, IsAskedBy, IsAskedOf, MayGoOnAs};
 ghost use Rattle.schedule.specs.Turned.{MayGoOn};
 ghost use Rattle.schedule.specs.Works.{MakesCommit, made_by, made_in};
 
-use crate::ahead::Ahead;
+use crate::computing::ToCompute;
 use client_script::ScriptCall;
 use core_commit::CommitRun;
 use core_turns::{AttachRun, CopyRound, GetRun, PutRun};
@@ -69,25 +69,25 @@ impl Work {
     }
 
     /// What its next turn asks to be computed, of the call of this number, from 0. What a read got is shared for that.
-    fn ahead(&mut self, alloc: Global, call: &ScriptCall, number: usize) -> Ahead
+    fn to_compute(&mut self, alloc: Global, call: &ScriptCall, number: usize) -> ToCompute
         requires may { (core : CoreOf) × MayGoOn core call.now self.old }
         ensures same { self.new ≡ self.old }
-        ensures can { (calls : List CallOf) → slice_get calls number ≡ Some call.now → IsAheadFor calls result }
+        ensures can { (calls : List CallOf) → slice_get calls number ≡ Some call.now → IsComputable calls result }
         ensures asked { IsAskedOf number self.old result }
     {
         match self {
             Work::Put(run) => match run.to_fill() {
-                Some(block) => Ahead::Fill {
+                Some(block) => ToCompute::Fill {
                     call: number,
                     block,
                 },
-                None => Ahead::Nothing,
+                None => ToCompute::Nothing,
             },
             Work::Read(run) => match run.to_solve(alloc) {
-                Some(block) => Ahead::Solve(block),
-                None => Ahead::Nothing,
+                Some(block) => ToCompute::Solve(block),
+                None => ToCompute::Nothing,
             },
-            _ => Ahead::Nothing,
+            _ => ToCompute::Nothing,
         }
     }
 }
@@ -102,15 +102,15 @@ pub struct UnderWay {
 
 impl UnderWay {
     /// What its next turn asks to be computed, where it is the call of this number, from 0, among these.
-    fn ahead(&mut self, alloc: Global, calls: &[ScriptCall], number: usize) -> Ahead
+    fn to_compute(&mut self, alloc: Global, calls: &[ScriptCall], number: usize) -> ToCompute
         requires may { (core : CoreOf) × ((call : CallOf) → slice_get calls.now number ≡ Some call → MayGoOn core call self.old.work) }
         ensures same { self.new ≡ self.old }
-        ensures can { IsAheadFor calls.now result }
+        ensures can { IsComputable calls.now result }
         ensures asked { (call : CallOf) → slice_get calls.now number ≡ Some call → IsAskedOf number self.old.work result }
     {
         match calls.get(number) {
-            Some(call) => self.work.ahead(alloc, call, number),
-            None => Ahead::Nothing,
+            Some(call) => self.work.to_compute(alloc, call, number),
+            None => ToCompute::Nothing,
         }
     }
 }
@@ -142,16 +142,16 @@ impl Client {
 
     /// What the next turn of its call under way asks to be computed, if it has one, of a client with these calls.
     /// What a read got is shared for that.
-    pub fn ahead(&mut self, alloc: Global, calls: &[ScriptCall]) -> Ahead
+    pub fn to_compute(&mut self, alloc: Global, calls: &[ScriptCall]) -> ToCompute
         requires begun { (under : UnderWayOf) → self.old.under_way ≡ Some under → 1 ≤ self.old.begun }
         requires may { MayGoOnAs calls.now self.old }
         ensures same { self.new ≡ self.old }
-        ensures can { IsAheadFor calls.now result }
+        ensures can { IsComputable calls.now result }
         ensures asked { IsAskedBy calls.now self.old result }
     {
         match &mut self.under_way {
-            Some(under_way) => under_way.ahead(alloc, calls, self.begun - 1),
-            None => Ahead::Nothing,
+            Some(under_way) => under_way.to_compute(alloc, calls, self.begun - 1),
+            None => ToCompute::Nothing,
         }
     }
 }

@@ -8,19 +8,19 @@
 //! `client_script` and `journal_law`.
 #![tactic(auto)]
 
-mod ahead;
 mod client;
+mod computing;
 mod live;
 mod progress;
 mod replay;
-mod station;
+mod taking;
 mod turning;
 mod whole_run;
 
-pub use ahead::{Ahead, Ready};
 pub use client::{Client, UnderWay, Work};
-pub use live::{Carried, Live};
+pub use computing::{Computed, ToCompute};
+pub use live::{Finished, Live};
 pub use progress::{Progress, UsedUp};
 pub use replay::{begin, carry_out, take_listed, take_turns, turn_of};
-pub use station::take_turn;
+pub use taking::take_turn;
 pub use whole_run::{Ended, PoolRun, Ran, run_pool};

@@ -18,7 +18,7 @@ pub struct Live<B: Bank> {
 
 /// How the calls of a script were carried out, and in how many turns, with the pool, its bank and the journal.
 #[derive(Drop)]
-pub struct Carried<B: Bank> {
+pub struct Finished<B: Bank> {
     pub bank: B,
     pub core: Core,
     pub journal: Journal,
@@ -28,7 +28,7 @@ pub struct Carried<B: Bank> {
 
 impl<B: Bank> Live<B> {
     /// What is left of it once the calls were carried out, which ended so.
-    pub fn end(self, ended: Ended) -> Carried<B>
+    pub fn end(self, ended: Ended) -> Finished<B>
         ensures { result ≡ record { bank = self.bank; core = self.core; journal = self.journal; ended = ended; turns = self.progress.turns } }
     {
         let Live {
@@ -37,7 +37,7 @@ impl<B: Bank> Live<B> {
             journal,
             progress,
         } = self;
-        Carried {
+        Finished {
             bank,
             core,
             journal,

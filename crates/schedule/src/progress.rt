@@ -4,14 +4,14 @@ ghost use Rattle.client_script.specs.Script.{calls_of};
 ghost use Rattle.core_state.specs.declared.item.Item.{Item as ItemOf};
 ghost use Rattle.core_turns.specs.Core.{CoreState};
 ghost use Rattle.schedule.specs.declared.client.Client.{Client as ClientOf};
-ghost use Rattle.schedule.specs.Ahead.{IsAheadFor, IsAskedBy};
+ghost use Rattle.schedule.specs.Computing.{IsComputable, IsAskedBy};
 ghost use Rattle.schedule.specs.Playing.{IsReady};
 ghost use Rattle.schedule.specs.InTurn.{has_left_at, is_any_busy, is_busy_at};
 ghost use Rattle.schedule.specs.Turns.{most_turns, turns_of};
 ghost use Rattle.schedule.specs.Replaying.{blank_clients};
 
-use crate::ahead::Ahead;
 use crate::client::Client;
+use crate::computing::ToCompute;
 use client_script::Script;
 use std::alloc::{AllocError, Global};
 
@@ -71,18 +71,18 @@ impl Progress {
 
     /// What the next turn of the call that a client has under way asks to be computed. What a read got is shared for
     /// that.
-    pub fn ahead(&mut self, alloc: Global, script: &Script, actor: u8) -> Ahead
+    pub fn to_compute(&mut self, alloc: Global, script: &Script, actor: u8) -> ToCompute
         requires ready { (state : CoreState) × (items : List ItemOf) × (room : ℕ)
             × IsReady script.now (turns_of state items self.old.clients.items) room }
         ensures same { self.new.clients.items ≡ self.old.clients.items }
         ensures turns { self.new.turns ≡ self.old.turns }
-        ensures can { IsAheadFor (calls_of script.now actor) result }
+        ensures can { IsComputable (calls_of script.now actor) result }
         ensures asked { (client : ClientOf) → slice_get self.old.clients.items actor ≡ Some client
             → IsAskedBy (calls_of script.now actor) client result }
     {
         match self.clients.get_mut(usize::from(actor)) {
-            Some(client) => client.ahead(alloc, script.calls(actor)),
-            None => Ahead::Nothing,
+            Some(client) => client.to_compute(alloc, script.calls(actor)),
+            None => ToCompute::Nothing,
         }
     }
 

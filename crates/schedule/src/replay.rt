@@ -9,17 +9,17 @@ ghost use Rattle.core_turns.specs.Core.{at_disk, HasBankOf};
 ghost use Rattle.schedule.specs.declared.client.Client.{Client as ClientOf};
 ghost use Rattle.schedule.specs.declared.whole_run.Ended.TheVariants.{Whole};
 ghost use Rattle.schedule.specs.Turns.{most_turns, turns_of};
-ghost use Rattle.schedule.specs.Ahead.{IsReadyFor};
+ghost use Rattle.schedule.specs.Computing.{IsComputedFor};
 ghost use Rattle.schedule.specs.InTurn.{Cursor, InOrder, InRest, InRound, IsCallOfScript, has_left_at};
 ghost use Rattle.schedule.specs.Live.{replay_in, turns_in};
 ghost use Rattle.schedule.specs.Playing.{CarriesOut, HasPlayed, HaveHadTurns, HasRunOutOfTurns, IsReady};
 ghost use Rattle.schedule.specs.Replaying.{AreIdle, BeginsOne, HasComeRound, HasTurn, HaveBegun, IsAtRest};
 ghost use Rattle.schedule.specs.Replaying.{blank_clients};
 
-use crate::ahead::Ready;
-use crate::live::{Carried, Live};
+use crate::computing::Computed;
+use crate::live::{Finished, Live};
 use crate::progress::{Progress, UsedUp};
-use crate::station::take_turn;
+use crate::taking::take_turn;
 use crate::whole_run::Ended;
 use bank_trait::Bank;
 use client_script::Script;
@@ -34,10 +34,10 @@ pub fn turn_of<B: Bank>(
     live: &mut Live<B>,
     script: &Script,
     actor: u8,
-    computed: Ready,
+    computed: Computed,
 )
     requires allowed { All (λ placed. IsAllowed placed.call) script.now.calls }
-    requires computed { IsReadyFor (calls_of script.now actor) computed }
+    requires computed { IsComputedFor (calls_of script.now actor) computed }
     requires ready { IsReady script.now
         (turns_in B.disk live.old) live.old.journal.room }
     ensures turn { HasTurn script.now actor
@@ -85,7 +85,7 @@ fn count_turn_of<B: Bank>(
         (turns_in B.disk live.new) live.new.progress.turns live.new.journal.room) }
 {
     live.progress.count()?;
-    turn_of(alloc, live, script, actor, Ready::Nothing);
+    turn_of(alloc, live, script, actor, Computed::Nothing);
     Ok(())
 }
 
@@ -280,7 +280,7 @@ pub fn begin(alloc: Global, script: &Script, journal: &mut Journal) -> Result<Pr
 /// has nothing left, does nothing, and is a turn. After the order the calls under way take one turn each in letter
 /// order, round after round, until all have ended; then the remaining calls are carried out one after the other,
 /// whole, in the order of their lines. Room for all answers is made before the first turn, so that none is kept
-/// from being listed; where memory is wanting for that, nothing is done. After 2^62 turns no more is taken: calls
+/// from being listed; where there is no memory for that, nothing is done. After 2^62 turns no more is taken: calls
 /// under way stay as they are.
 pub fn carry_out<B: Bank>(
     alloc: Global,
@@ -289,7 +289,7 @@ pub fn carry_out<B: Bank>(
     script: &Script,
     listed: &[u8],
     mut journal: Journal,
-) -> Carried<B>
+) -> Finished<B>
     requires bank { HasBankOf core (B.disk bank) }
     requires rest { IsAtRest core }
     requires allowed { All (λ placed. IsAllowed placed.call) script.now.calls }
@@ -302,7 +302,7 @@ pub fn carry_out<B: Bank>(
     ensures complete { result.ended ≡ Whole → IsComplete (asked_by script.now) result.journal.items }
 {
     let Ok(progress) = begin(alloc, script, &mut journal) else {
-        return Carried {
+        return Finished {
             bank,
             core,
             journal,

@@ -13,18 +13,16 @@ ghost use Rattle.core_turns.specs.Getting.{IsGetOf, IsReadKind, SolvesGet};
 ghost use Rattle.core_turns.specs.Putting.{IsFillable, IsPutOf, to_fill_of};
 ghost use Rattle.core_turns.specs.Steps.{turn_with};
 ghost use Rattle.core_turns.specs.UnderWay.{TurnGoesOn};
-ghost use Rattle.schedule.specs.Ahead.{IsMadeUpOf, IsReadyWith, IsSolvedOf};
+ghost use Rattle.schedule.specs.Computing.{IsMadeUpOf, IsComputedOf, IsSolvedOf};
 ghost use Rattle.schedule.specs.Turned.{BeginsCall, GoesOnBy, HasDeviceFor, HasDeviceForTurn, HasTableOf, IsFilledIn};
-ghost use Rattle.schedule.specs.Turned.{IsOfPool, MayGoOn, PutGoesOn, ReadGoesOn, WorkGoesOn, WritesOn, attach_turn};
-ghost use Rattle.schedule.specs.Turned.{copy_turn, put_turn, read_turn, sync_turn};
+ghost use Rattle.schedule.specs.Turned.{IsOfPool, MayGoOn, PutGoesOn, ReadGoesOn, WorkGoesOn, WritesOn};
 
-use crate::ahead::Ready;
 use crate::client::Work;
+use crate::computing::{Computed, put_bytes};
 use bank_trait::Bank;
 use client_script::{Fill, ScriptCall};
-use core_commit::CommitRun;
 use core_state::{Answer, Kind};
-use core_turns::{AttachRun, CopyRound, Core, GetRun, MadeUp, PutRun, SolvedFrom, Turn};
+use core_turns::{Core, GetRun, MadeUp, PutRun, SolvedFrom, Turn};
 use std::alloc::Global;
 use std::mem::replace;
 
@@ -37,56 +35,6 @@ fn fill_len(fill: &Fill) -> u32
         Fill::Nothing => 0,
         Fill::Pattern { len, seed: _ } => *len,
         Fill::Hex(bytes) => bytes.as_slice().len() as u32,
-    }
-}
-
-fn put_turn(turn: Turn<PutRun>) -> Turn<Work>
-    ensures { result ≡ put_turn turn }
-{
-    match turn {
-        Turn::More(run) => Turn::More(Work::Put(run)),
-        Turn::Busy { by } => Turn::Busy { by },
-        Turn::Done(answer) => Turn::Done(answer),
-    }
-}
-
-fn read_turn(turn: Turn<GetRun>) -> Turn<Work>
-    ensures { result ≡ read_turn turn }
-{
-    match turn {
-        Turn::More(run) => Turn::More(Work::Read(run)),
-        Turn::Busy { by } => Turn::Busy { by },
-        Turn::Done(answer) => Turn::Done(answer),
-    }
-}
-
-fn sync_turn(turn: Turn<CommitRun>) -> Turn<Work>
-    ensures { result ≡ sync_turn turn }
-{
-    match turn {
-        Turn::More(run) => Turn::More(Work::Sync(run)),
-        Turn::Busy { by } => Turn::Busy { by },
-        Turn::Done(answer) => Turn::Done(answer),
-    }
-}
-
-fn attach_turn(turn: Turn<AttachRun>) -> Turn<Work>
-    ensures { result ≡ attach_turn turn }
-{
-    match turn {
-        Turn::More(run) => Turn::More(Work::Attach(run)),
-        Turn::Busy { by } => Turn::Busy { by },
-        Turn::Done(answer) => Turn::Done(answer),
-    }
-}
-
-fn copy_turn(turn: Turn<CopyRound>) -> Turn<Work>
-    ensures { result ≡ copy_turn turn }
-{
-    match turn {
-        Turn::More(round) => Turn::More(Work::Copy(round)),
-        Turn::Busy { by } => Turn::Busy { by },
-        Turn::Done(answer) => Turn::Done(answer),
     }
 }
 
@@ -128,9 +76,9 @@ fn begin_pool_call<B: Bank>(
         → HasBankOf core.new disk }
 {
     match call.kind {
-        Kind::Attach => attach_turn(core.attach_begin(bank, actor)),
-        Kind::Copy => copy_turn(core.copy_begin(alloc, actor)),
-        _ => sync_turn(core.commit_begin(alloc, actor)),
+        Kind::Attach => core.attach_begin(bank, actor).map(Work::Attach),
+        Kind::Copy => core.copy_begin(alloc, actor).map(Work::Copy),
+        _ => core.commit_begin(alloc, actor).map(Work::Sync),
     }
 }
 
@@ -152,8 +100,10 @@ fn begin_block_call<B: Bank>(
         → HasBankOf core.new disk }
 {
     match call.kind {
-        Kind::Put => put_turn(core.put_begin(actor, id, fill_len(&call.fill))),
-        Kind::Get | Kind::Sum => read_turn(core.get_begin(alloc, actor, call.kind, id)),
+        Kind::Put => core
+            .put_begin(actor, id, fill_len(&call.fill))
+            .map(Work::Put),
+        Kind::Get | Kind::Sum => core.get_begin(alloc, actor, call.kind, id).map(Work::Read),
         Kind::Free => Turn::Done(core.free(id)),
         _ => unreachable!(),
     }
@@ -175,7 +125,7 @@ fn fill_in(alloc: Global, call: &ScriptCall, run: &mut PutRun, made: Option<Box<
             return true;
         }
     }
-    match call.fill.to_bytes(alloc) {
+    match put_bytes(alloc, &call.fill) {
         Ok(bytes) => run.fill(alloc, bytes.as_slice()).is_ok(),
         Err(_) => false,
     }
@@ -239,7 +189,7 @@ fn solve(alloc: Global, run: &mut GetRun, solved: Option<Box<SolvedFrom>>)
     let _ = run.solve(alloc);
 }
 
-/// A read's block is solved before its last turn. Where memory is wanting for that, the last turn says so.
+/// A read's block is solved before its last turn. Where there is no memory for that, the last turn says so.
 fn go_on_reading<B: Bank>(
     alloc: Global,
     bank: &mut B,
@@ -283,9 +233,9 @@ fn turn_with_pool<B: Bank>(
     ensures bank { HasBankOf core.new (B.disk bank.new) }
 {
     match work {
-        Work::Sync(run) => sync_turn(core.commit_step(bank, run)),
-        Work::Attach(run) => attach_turn(core.attach_step(alloc, bank, run)),
-        Work::Copy(round) => copy_turn(core.copy_step(alloc, bank, round)),
+        Work::Sync(run) => core.commit_step(bank, run).map(Work::Sync),
+        Work::Attach(run) => core.attach_step(alloc, bank, run).map(Work::Attach),
+        Work::Copy(round) => core.copy_step(alloc, bank, round).map(Work::Copy),
         _ => unreachable!(),
     }
 }
@@ -328,10 +278,10 @@ pub fn go_on<B: Bank>(
     core: &mut Core,
     call: &ScriptCall,
     work: &mut Work,
-    ready: Ready,
+    computed: Computed,
 ) -> Option<Answer>
     requires may { MayGoOn core.old call.now work.old }
-    requires ready { IsReadyWith call.now ready }
+    requires computed { IsComputedOf call.now computed }
     requires there { HasDeviceFor (B.disk bank.old) work.old }
     requires bank { HasBankOf core.old (B.disk bank.old) }
     ensures goes { GoesOnBy (at_disk core.old (B.disk bank.old)) (at_disk core.new (B.disk bank.new))
@@ -342,8 +292,8 @@ pub fn go_on<B: Bank>(
     ensures bank { HasBankOf core.new (B.disk bank.new) }
 {
     match work {
-        Work::Put(run) => go_on_putting(alloc, bank, core, call, run, ready.into_block()),
-        Work::Read(run) => go_on_reading(alloc, bank, core, run, ready.into_solved()),
+        Work::Put(run) => go_on_putting(alloc, bank, core, call, run, computed.into_block()),
+        Work::Read(run) => go_on_reading(alloc, bank, core, run, computed.into_solved()),
         _ => go_on_with_pool(alloc, bank, core, call, work),
     }
 }

@@ -10,7 +10,7 @@ ghost use Rattle.schedule.specs.declared.whole_run.Ended.TheVariants.{Whole, Lim
 ghost use Rattle.schedule.specs.Turns.{most_turns};
 ghost use Rattle.schedule.specs.WholeRun.{HasRunInTurn};
 
-use crate::live::Carried;
+use crate::live::Finished;
 use crate::replay::carry_out;
 use bank_trait::Bank;
 use client_script::Script;
@@ -20,7 +20,7 @@ use core_turns::Core;
 use std::alloc::Global;
 use uberblock_ring::DeviceSet;
 
-/// How far a run came: each call is answered; or memory for the answers was wanting, and no turn was taken; or no
+/// How far a run came: each call is answered; or there was no memory for the answers, and no turn was taken; or no
 /// more turns can be counted.
 #[derive(Clone, Copy, Debug, PartialEq, Eq)]
 pub enum Ended {
@@ -47,21 +47,21 @@ pub struct PoolRun<B: Bank> {
 
 impl<B: Bank> PoolRun<B> {
     /// The calls of a script were carried out so.
-    pub fn of(carried: Carried<B>) -> PoolRun<B>
+    pub fn of(finished: Finished<B>) -> PoolRun<B>
         ensures { result ≡ record {
-          ran = Ok (record { ended = carried.ended; turns = carried.turns; out = carried.core.pool.out });
-          bank = carried.bank;
-          journal = carried.journal;
+          ran = Ok (record { ended = finished.ended; turns = finished.turns; out = finished.core.pool.out });
+          bank = finished.bank;
+          journal = finished.journal;
         } }
     {
         PoolRun {
             ran: Ok(Ran {
-                ended: carried.ended,
-                turns: carried.turns,
-                out: carried.core.out(),
+                ended: finished.ended,
+                turns: finished.turns,
+                out: finished.core.out(),
             }),
-            bank: carried.bank,
-            journal: carried.journal,
+            bank: finished.bank,
+            journal: finished.journal,
         }
     }
 }

@@ -3,7 +3,7 @@ use Rattle.schedule.proofs.Words.{◌≡◌, ℕ, ◌+◌, ◌-◌, List, length
 use Rattle.schedule.proofs.Words.{slice_get_within, none_read, Answer, map_of, ScriptCall, Script, calls_of, AttachRun}
 use Rattle.schedule.proofs.Words.{More, Busy, Done, BeginsAttach, BeginsAttachSo, attach_commit, at_disk, Stands}
 use Rattle.schedule.proofs.Words.{attaching_calls, attaching_stands, turn_still, Client, UnderWay, calls_under_way}
-use Rattle.schedule.proofs.Words.{setting_now, Station, LeavesBegun, TakesTurn}
+use Rattle.schedule.proofs.Words.{setting_now, TurnState, LeavesBegun, TakesTurn}
 use Rattle.core_state.specs.declared.answer.Kind.TheVariants as kind
 use Rattle.schedule.specs.declared.client.Work.TheVariants as work
 use Rattle.schedule.proofs.turn.Answered.{answered_idle}
@@ -18,7 +18,7 @@ use Rattle.schedule.proofs.turn.Theirs.{none_there, calls_stay, none_some, same_
 use Rattle.schedule.proofs.turn.Running.{with_same}
 use Rattle.schedule.proofs.turn.Comes.{ItComes, comes_nowhere, comes_refused, comes_under}
 
-module _ {script : Script} {actor : ℕ} {before after : Station} {clients news : List Client} {call : ScriptCall}
+module _ {script : Script} {actor : ℕ} {before after : TurnState} {clients news : List Client} {call : ScriptCall}
     (takes : TakesTurn script actor before after clients news) (asked : call.kind ≡ kind.Attach)
     (no_id : call.id ≡ None) (idle : before.client.under_way ≡ None)
     (next : slice_get (calls_of script actor) before.client.begun ≡ Some call)

@@ -6,7 +6,7 @@ use Rattle.schedule.proofs.Words.{Joins, Signs, More, HoldsAttach, IsAttachRunOf
 use Rattle.schedule.proofs.Words.{IsCommitOf, StepsCommit, Core, HasTooManyOut, Stands, shown_in, join_drops_since}
 use Rattle.schedule.proofs.Words.{join_drops_stands, join_goes_since, join_goes_stands, few_out, commit_steps_since}
 use Rattle.schedule.proofs.Words.{commit_steps_stands, Client, UnderWay, TakesTurn, Past, HasBegun, HasBegunIn, Runs}
-use Rattle.schedule.proofs.Words.{calls_under_way, setting_now, LeavesGoing, Station, WorkGoesOn}
+use Rattle.schedule.proofs.Words.{calls_under_way, setting_now, LeavesGoing, TurnState, WorkGoesOn}
 use Rattle.core_commit.specs.declared.commit_run.Stage.TheVariants.{Signs as Signing}
 use Rattle.core_commit.specs.declared.join_run.JoinStep.TheVariants as step
 use Rattle.core_turns.proofs.state.Frames.{calls_stay as core_calls}
@@ -25,7 +25,7 @@ pub from_first : (to : Stage) → HalvesGoOn Lays to
 from_first Lays = tt
 from_first Signing = tt
 
-module _ {script : Script} {actor : ℕ} {before after : Station} {clients news : List Client} {call : ScriptCall}
+module _ {script : Script} {actor : ℕ} {before after : TurnState} {clients news : List Client} {call : ScriptCall}
     {under : UnderWay} {run : AttachRun}
     (from : GoesFrom script actor before after clients news call under (work.Attach run)) where
   open from use {takes, does_is, under_is, is}
@@ -88,7 +88,7 @@ module _ {script : Script} {actor : ℕ} {before after : Station} {clients news 
 
 -- ---- turn by turn
 
-module _ {script : Script} {actor : ℕ} {before after : Station} {clients news : List Client} {call : ScriptCall}
+module _ {script : Script} {actor : ℕ} {before after : TurnState} {clients news : List Client} {call : ScriptCall}
     (takes : TakesTurn script actor before after clients news) {under : UnderWay}
     (under_is : before.client.under_way ≡ Some under)
     (is : slice_get (calls_of script actor) (before.client.begun - 1) ≡ Some call) where

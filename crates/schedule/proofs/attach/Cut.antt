@@ -3,7 +3,7 @@ use Rattle.schedule.proofs.Words.{◌≡◌, arith, ap, held_under, ℕ, ◌-◌
 use Rattle.schedule.proofs.Words.{CommitRun, Answer, ScriptCall, Script, calls_of, AttachRun, Done, IsTooMany}
 use Rattle.schedule.proofs.Words.{StopsAttach, attach_commit, at_disk, HasTooManyOut, attaching_calls, attaching_stands}
 use Rattle.schedule.proofs.Words.{look_stands, since_read, Client, UnderWay, TakesTurn, calls_under_way, setting_now}
-use Rattle.schedule.proofs.Words.{LeavesGoing, Station, WorkGoesOn}
+use Rattle.schedule.proofs.Words.{LeavesGoing, TurnState, WorkGoesOn}
 use Rattle.core_state.specs.declared.answer.Answer.TheVariants as answer
 use Rattle.core_state.specs.declared.answer.Kind.TheVariants as kind
 use Rattle.core_turns.proofs.sync.Stands.{commit_is_cut as cut_stands}
@@ -18,7 +18,7 @@ use Rattle.schedule.proofs.turn.Ends.{commit_is_cut}
 use Rattle.schedule.proofs.turn.Comes.{GoesFrom, ItComes, alone, attach_calls, attach_on, comes_last, idle_now}
 use Rattle.schedule.proofs.turn.Comes.{its_asked, its_stands, only, whole_recorded}
 
-module _ {script : Script} {actor : ℕ} {before after : Station} {clients news : List Client} {call : ScriptCall}
+module _ {script : Script} {actor : ℕ} {before after : TurnState} {clients news : List Client} {call : ScriptCall}
     (takes : TakesTurn script actor before after clients news) {under : UnderWay} {run : AttachRun} {commit : CommitRun}
     (makes : attach_commit run ≡ Some commit) (does_is : under.work ≡ work.Attach run)
     (under_is : before.client.under_way ≡ Some under)

@@ -3,7 +3,7 @@ use Rattle.schedule.proofs.Words.{◌≡◌, ◌⊎◌, ⊎_elim, ℕ, List, Opt
 use Rattle.schedule.proofs.Words.{Failed, FaultCounted, IsWithin, Kind, Point, steps_same, Guest, Lost, WhyDropped}
 use Rattle.schedule.proofs.Words.{JoinRun, JoinSteps, guest_after, ScriptCall, AttachRun, More, StepsAttach, Core}
 use Rattle.schedule.proofs.Words.{CoreState, Client, UnderWay, Work, Changes, HasDropCause, IsDropCause, IsToBeTold}
-use Rattle.schedule.proofs.Words.{WillTell, BeginsWork, GoesOnBy, Station, Turned, WorkGoesOn, turns_of, arith}
+use Rattle.schedule.proofs.Words.{WillTell, BeginsWork, GoesOnBy, TurnState, Turned, WorkGoesOn, turns_of, arith}
 use Rattle.core_commit.specs.declared.join_run.JoinStep.TheVariants as step
 use Rattle.schedule.specs.declared.client.Work.TheVariants as work
 use Rattle.schedule.proofs.turn.Theirs.{none_some, same_attach, some_is}
@@ -39,7 +39,7 @@ begun_untold old new devices actor call asked id run cause did tells = grind ari
 
 -- ---- a turn of a client
 
-module _ (calls : List ScriptCall) (actor : ℕ) (before after : Station) {clients news : List Client}
+module _ (calls : List ScriptCall) (actor : ℕ) (before after : TurnState) {clients news : List Client}
     (was : slice_get clients actor ≡ Some before.client) (changes : Changes clients news actor after.client)
     (cause : WhyDropped) where
   abbrev Since : Type 0

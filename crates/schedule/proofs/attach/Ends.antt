@@ -6,7 +6,7 @@ use Rattle.schedule.proofs.Words.{AwaitsAttach, item_of, World, last_there, widt
 use Rattle.schedule.proofs.Words.{Script, calls_of, Signs, Done, EndsAttach, IsAttachRunOf, IsMadeAt, attach_answer}
 use Rattle.schedule.proofs.Words.{IsCore, Stands, attach_ends_stands, attaching_calls, commit_ends_calls, few_out}
 use Rattle.schedule.proofs.Words.{Client, UnderWay, TakesTurn, Past, IsBegunAt, IsRightNext, Runs, calls_under_way}
-use Rattle.schedule.proofs.Words.{setting_now, LeavesGoing, Station, WorkGoesOn, group_for, IsListedWith}
+use Rattle.schedule.proofs.Words.{setting_now, LeavesGoing, TurnState, WorkGoesOn, group_for, IsListedWith}
 use Rattle.core_state.specs.declared.answer.Answer.TheVariants as answer
 use Rattle.core_state.specs.declared.answer.Kind.TheVariants as kind
 use Rattle.core_state.specs.declared.item.Group.{Group as GroupItem}
@@ -35,7 +35,7 @@ same_widths before next same (inl kept) = inl kept
 same_widths before next same (inr (inl ended)) = inr (inl ended)
 same_widths before next same (inr (inr began)) = absurd (omega (arith, same, began.1, began.3))
 
-module _ {script : Script} {actor : ℕ} {before after : Station} {clients news : List Client} {call : ScriptCall}
+module _ {script : Script} {actor : ℕ} {before after : TurnState} {clients news : List Client} {call : ScriptCall}
     (takes : TakesTurn script actor before after clients news) {under : UnderWay} {run : CommitRun}
     {because : Option WhyDropped} (does_is : under.work ≡ work.Attach (Signs run because))
     (under_is : before.client.under_way ≡ Some under)

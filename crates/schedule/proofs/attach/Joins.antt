@@ -3,7 +3,7 @@ use Rattle.schedule.proofs.Words.{◌≡◌, ℕ, ◌-◌, List, Some, refl, sym
 use Rattle.schedule.proofs.Words.{JoinRun, Item, Kept, World, ScriptCall, Script, calls_of, width_step_where, Checked}
 use Rattle.schedule.proofs.Words.{Joins, More, BeginsJoining, IsAttachRunOf, Core, attach_joins_stands}
 use Rattle.schedule.proofs.Words.{commit_begins_calls, few_out, Client, UnderWay, TakesTurn, IsBegunAt, HasDeviceUnder}
-use Rattle.schedule.proofs.Words.{LeavesGoing, Station, WorkGoesOn}
+use Rattle.schedule.proofs.Words.{LeavesGoing, TurnState, WorkGoesOn}
 use Rattle.core_state.specs.declared.item.Group.{Group as GroupItem}
 use Rattle.schedule.specs.declared.client.Work.TheVariants as work
 use Rattle.schedule.proofs.attach.Commits.{attach_makes}
@@ -17,7 +17,7 @@ begun_tells : {told : Type 0} {world : World} {items : List Item} {item : GroupI
     → IsBegunAt world items item after ⊥ next → IsBegunAt world items item after told next
 begun_tells begun = search (width_step_where, arith)
 
-module _ {script : Script} {actor : ℕ} {before after : Station} {clients news : List Client} {call : ScriptCall}
+module _ {script : Script} {actor : ℕ} {before after : TurnState} {clients news : List Client} {call : ScriptCall}
     (takes : TakesTurn script actor before after clients news) {under : UnderWay} {ring : RingRead} {join : JoinRun}
     (does_is : under.work ≡ work.Attach (Checked ring)) (under_is : before.client.under_way ≡ Some under)
     (is : slice_get (calls_of script actor) (before.client.begun - 1) ≡ Some call)

@@ -9,7 +9,7 @@ use Rattle.schedule.proofs.Words.{IsAttachRunOf, IsDeviceRefused, ReadsNext, Sto
 use Rattle.schedule.proofs.Words.{IsSyncRefused, Core, CoreState, HasBankOf, IsCore, at_disk, HasTooManyOut, Stands}
 use Rattle.schedule.proofs.Words.{attaching_calls, attaching_stands, look_stands, attaching_commit, rests, since_read}
 use Rattle.schedule.proofs.Words.{Client, UnderWay, TakesTurn, IsGroupKind, Past, IsRightNext, AreGoing, Runs}
-use Rattle.schedule.proofs.Words.{calls_under_way, commit_in, held_under, setting_now, made_by, LeavesGoing, Station}
+use Rattle.schedule.proofs.Words.{calls_under_way, commit_in, held_under, setting_now, made_by, LeavesGoing, TurnState}
 use Rattle.schedule.proofs.Words.{WorkGoesOn, entry_for}
 use Rattle.core_state.specs.declared.answer.Answer.TheVariants as answer
 use Rattle.schedule.specs.declared.client.Work.TheVariants as work
@@ -56,7 +56,7 @@ made_none : (run : AttachRun) → attach_commit run ≡ None → made_by (work.A
 made_none (Signs commit because) none = cc
 made_none other none = refl
 
-module _ {script : Script} {actor : ℕ} {before after : Station} {clients news : List Client} {call : ScriptCall}
+module _ {script : Script} {actor : ℕ} {before after : TurnState} {clients news : List Client} {call : ScriptCall}
     {under : UnderWay} {run : AttachRun}
     (from : GoesFrom script actor before after clients news call under (work.Attach run))
     (goes : WorkGoesOn (work.Attach run) before.state after.state) (none : attach_commit run ≡ None) where
@@ -146,7 +146,7 @@ reads_still : {before after : Disk} (ring : RingRead) {next : RingRead} → Unch
     → ReadsSlot before ring next → ReadsSlot after ring next
 reads_still ring unchanged reads = grind arith
 
-module _ {script : Script} {actor : ℕ} {before after : Station} {clients news : List Client} {call : ScriptCall}
+module _ {script : Script} {actor : ℕ} {before after : TurnState} {clients news : List Client} {call : ScriptCall}
     (takes : TakesTurn script actor before after clients news) {under : UnderWay} (ring : RingRead)
     (under_is : before.client.under_way ≡ Some under)
     (is : slice_get (calls_of script actor) (before.client.begun - 1) ≡ Some call)

@@ -5,7 +5,7 @@ use Rattle.schedule.proofs.Words.{widened_kept, Asked, Kept, AwaitsAttach, World
 use Rattle.schedule.proofs.Words.{Joins, Signs, More, GoOutAndReach, IsAttachRunOf, StepsJoin, Core, HasBankOf}
 use Rattle.schedule.proofs.Words.{AreCallsOf, HoldingCall, join_joins_since, join_joins_stands, reaching_on, few_out}
 use Rattle.schedule.proofs.Words.{calls_beside, Client, UnderWay, answered_of, TakesTurn, IsWorldOf, Past, IsBegunAt}
-use Rattle.schedule.proofs.Words.{Runs, setting_now, HasDeviceUnder, LeavesGoing, Station, WorkGoesOn}
+use Rattle.schedule.proofs.Words.{Runs, setting_now, HasDeviceUnder, LeavesGoing, TurnState, WorkGoesOn}
 use Rattle.core_state.specs.declared.answer.Kind.TheVariants as kind
 use Rattle.core_commit.specs.declared.join_run.JoinStep.TheVariants as step
 use Rattle.core_turns.proofs.state.Frames.{calls_stay as core_calls}
@@ -23,7 +23,7 @@ asking : ScriptCall → Asked
 asking call = record { kind = call.kind; id = call.id }
 
 -- An attach that is a client's call under way is to be answered.
-pub awaits_attach : {script : Script} {actor : ℕ} {before after : Station} {clients news : List Client}
+pub awaits_attach : {script : Script} {actor : ℕ} {before after : TurnState} {clients news : List Client}
     {call : ScriptCall} (takes : TakesTurn script actor before after clients news) {under : UnderWay}
     → before.client.under_way ≡ Some under → call.kind ≡ kind.Attach → call.id ≡ None
     → slice_get (calls_of script actor) (before.client.begun - 1) ≡ Some call → {world : World}
@@ -54,7 +54,7 @@ reaching_bank : (core : Core) {disk : Disk} → HasBankOf core disk → core.rea
     → HasBankOf (reaching_on core) disk
 reaching_bank core bank there = search (there, cases_lt, arith)
 
-module _ {script : Script} {actor : ℕ} {before after : Station} {clients news : List Client} {call : ScriptCall}
+module _ {script : Script} {actor : ℕ} {before after : TurnState} {clients news : List Client} {call : ScriptCall}
     (takes : TakesTurn script actor before after clients news) {under : UnderWay} {join : JoinRun} {made : CommitRun}
     (does_is : under.work ≡ work.Attach (Joins join)) (under_is : before.client.under_way ≡ Some under)
     (is : slice_get (calls_of script actor) (before.client.begun - 1) ≡ Some call)

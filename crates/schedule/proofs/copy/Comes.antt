@@ -2,7 +2,7 @@
 use Rattle.schedule.proofs.Words.{◌≡◌, ℕ, List, refl, arith, Some, None, slice_get, slice_get_within, Answer, CommitRun}
 use Rattle.schedule.proofs.Words.{ScriptCall, Script, calls_of, CopyRun, Copies, Commits, More, Busy, Done, BeginsJobSo}
 use Rattle.schedule.proofs.Words.{BeginsRound, rests, job_begins_calls, job_begins_stands, TakesTurn, LeavesBegun}
-use Rattle.schedule.proofs.Words.{Station, Client}
+use Rattle.schedule.proofs.Words.{TurnState, Client}
 use Rattle.core_state.specs.declared.answer.Kind.TheVariants as kind
 use Rattle.schedule.specs.declared.client.Work.TheVariants as work
 use Rattle.schedule.proofs.sync.Works.{copy_makes}
@@ -15,7 +15,7 @@ use Rattle.schedule.proofs.turn.Theirs.{calls_of_others, idle_no_attach}
 use Rattle.schedule.proofs.turn.Comes.{Dropped, ItComes, comes_begun, comes_nowhere, comes_refused, first_entry}
 use Rattle.schedule.proofs.turn.Comes.{held_gains}
 
-module _ {script : Script} {actor : ℕ} {before after : Station} {clients news : List Client} {call : ScriptCall}
+module _ {script : Script} {actor : ℕ} {before after : TurnState} {clients news : List Client} {call : ScriptCall}
     (takes : TakesTurn script actor before after clients news) (asked : call.kind ≡ kind.Copy) (no_id : call.id ≡ None)
     (idle : before.client.under_way ≡ None) (next : slice_get (calls_of script actor) before.client.begun ≡ Some call)
     (disk : after.state.disk ≡ before.state.disk) where

@@ -6,7 +6,7 @@ use Rattle.schedule.proofs.Words.{BeginsJobSo, IsJobOf, CoreState, IsRoundOf, St
 use Rattle.schedule.proofs.Words.{HoldingCall, TurnGoesOn, rests, job_begins_calls, job_drops_calls, job_steps_calls}
 use Rattle.schedule.proofs.Words.{job_ends_calls, job_ends_stands, job_begins_stands, job_drops_stands, job_steps_since}
 use Rattle.schedule.proofs.Words.{job_steps_stands, TakesTurn, IsGroupKind, call_of_client, calls_under_way, commit_in}
-use Rattle.schedule.proofs.Words.{LeavesGoing, Station, entry_for, begun_at, Client, UnderWay, Work}
+use Rattle.schedule.proofs.Words.{LeavesGoing, TurnState, entry_for, begun_at, Client, UnderWay, Work}
 use Rattle.core_state.specs.declared.answer.Answer.TheVariants as answer
 use Rattle.core_state.specs.declared.answer.Kind.TheVariants as kind
 use Rattle.schedule.specs.declared.client.Work.TheVariants as work
@@ -28,7 +28,7 @@ still_since : {setting : Setting} {last : Kept} {shown : List Kept} {before afte
     → GoesOnSince setting last shown before after
 still_since same groups time row kept = search same
 
-module _ {script : Script} {actor : ℕ} {before after : Station} {clients news : List Client} {call : ScriptCall}
+module _ {script : Script} {actor : ℕ} {before after : TurnState} {clients news : List Client} {call : ScriptCall}
     (takes : TakesTurn script actor before after clients news) {under : UnderWay}
     (under_is : before.client.under_way ≡ Some under)
     (is : slice_get (calls_of script actor) (before.client.begun - 1) ≡ Some call)

@@ -27,7 +27,7 @@ steps_plain : (before after : CoreState) (round : CopyRound) (given : Answer)
     → StepsCopy before round after (Done given) → EndsPlainly given None
 steps_plain before after round given steps = grind (arith, round_plain, too_many_plain)
 
--- or room for the next group is wanting.
+-- or there is no room for the next group.
 lacking_plain : (before after : CoreState) (round : CopyRound) (given : Answer) → LacksRoom round before after given
     → EndsPlainly given None
 lacking_plain before after round given lacks = grind (arith, plain_ends)
@@ -76,7 +76,7 @@ module _ (before after : CoreState) where
   steps_end (Copies run) given steps = job_ended (cc) (cc) (cc) steps.1.ends
   steps_end (Commits run) given steps = goes_nowhere (cc)
 
-  -- or was wanting.
+  -- or there was none.
   lacking_ends : (round : CopyRound) (given : Answer) → LacksRoom round before after given
       → GoesAs old new [] None (job_in (work.Copy round)) None 0 0
   lacking_ends round given lacks = grind (arith, goes_nowhere)

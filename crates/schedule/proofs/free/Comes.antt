@@ -2,7 +2,7 @@
 use Rattle.schedule.proofs.Words.{◌≡◌, ℕ, List, Some, None, ap, slice_get, option_and_then, Disk, Answer, Entry, Map}
 use Rattle.schedule.proofs.Words.{PutBytes, map_of, map_after_answer, IsAnswerOf, IsRightFree, found_id, found_listed}
 use Rattle.schedule.proofs.Words.{map_after_free, HoldsMap, ScriptCall, Script, calls_of, Core, at_disk, pool_at}
-use Rattle.schedule.proofs.Words.{FreesBlock, Done, frees_calls, frees_stands, Client, Station, Frees, LeavesBegun}
+use Rattle.schedule.proofs.Words.{FreesBlock, Done, frees_calls, frees_stands, Client, TurnState, Frees, LeavesBegun}
 use Rattle.schedule.proofs.Words.{TakesTurn, calls_under_way, arith}
 use Rattle.core_state.specs.declared.answer.Kind.TheVariants as kind
 use Rattle.schedule.proofs.turn.Fitting.{no_device_cause, plain_no_limit}
@@ -33,7 +33,7 @@ frees_right : (old new : Core) {disk : Disk} (map : Map) (id : ℕ) (given : Ans
     → HoldsMap map (pool_at (at_disk old disk)) → FreesBlock old new id given → IsRightFree (map id) given
 frees_right old new map id given holds frees = grind (arith, found_listed, none_some, found_id)
 
-module _ {script : Script} {actor : ℕ} {before after : Station} {clients news : List Client}
+module _ {script : Script} {actor : ℕ} {before after : TurnState} {clients news : List Client}
     (takes : TakesTurn script actor before after clients news) {call : ScriptCall} (id : ℕ) {given : Answer}
     (asked : call.kind ≡ kind.Free) (id_is : call.id ≡ Some id) (idle : before.client.under_way ≡ None)
     (next : slice_get (calls_of script actor) before.client.begun ≡ Some call)

@@ -7,7 +7,7 @@ use Rattle.schedule.proofs.Words.{PutRun, Turn, Done, Core, CoreState, at_disk, 
 use Rattle.schedule.proofs.Words.{ReadsTurn, SolvesGet, EndsGet, IsFillable, IsPutOf, FillsPut, EndsPut, GivesUpTurn}
 use Rattle.schedule.proofs.Words.{left_to_fill, to_fill_of, TurnGoesOn, reads_reaching, fills_of, Work, MakesRoom}
 use Rattle.schedule.proofs.Words.{taken_for, BeginsCall, GoesOnBy, IsFilledIn, MayGoOn, PutGoesOn, WritesOn, ReadGoesOn}
-use Rattle.schedule.proofs.Words.{WorkGoesOn, attach_turn, copy_turn, read_turn, made_in}
+use Rattle.schedule.proofs.Words.{WorkGoesOn, MapsTurn, made_in}
 use Rattle.std.specs.Prelude.{◌≤◌}
 use Rattle.core_state.specs.declared.answer.Answer.TheVariants as answer
 use Rattle.schedule.specs.declared.client.Work.TheVariants as work
@@ -23,10 +23,11 @@ pattern_length seed from (suc len) = omega (arith, pattern_length seed (from + 1
 
 -- The first turn of a read is that of its call.
 pub read_begins : (old new : Core) (devices actor : ℕ) {id : ℕ} (call : ScriptCall)
-    (turn : Turn GetRun) {result : Turn Work}
-    → IsReadKind call.kind → call.id ≡ Some id → result ≡ read_turn turn → BeginsGet old new actor call.kind id turn
+    (turn : Turn GetRun) (result : Turn Work)
+    → IsReadKind call.kind → call.id ≡ Some id → MapsTurn (λ run does. does ≡ work.Read run) turn result
+    → BeginsGet old new actor call.kind id turn
     → BeginsCall old new devices actor call result
-read_begins old new devices actor call turn is id_is same begins = grind arith
+read_begins old new devices actor call turn result is id_is maps begins = grind arith
 
 -- ---- turns without a device call
 
@@ -65,7 +66,7 @@ pub filled_under : {blocks : Blocks} (call : ScriptCall) {run filled : PutRun} �
     → IsUnderWay blocks run.range → IsUnderWay blocks filled.range
 filled_under call fills under = search arith
 
--- A put for which memory was wanting is given up.
+-- A put for which there was no memory is given up.
 pub put_gives : (old new : Core) (disk : Disk) (call : ScriptCall) {run given_up : PutRun} (turn : Turn PutRun)
     → run.filled ≡ None → given_up ≡ run → GivesUpTurn old given_up new turn
     → PutGoesOn (at_disk old disk) (at_disk new disk) call run turn
@@ -106,27 +107,29 @@ pub put_fillable : {core : Core} {run : PutRun} {content : List ℕ} → IsPutOf
     → IsFillable (to_fill_of run) content
 put_fillable of len = search
 
-pub put_ahead : {core : Core} (call : ScriptCall) {run : PutRun} {block : ToFill} → MayGoOn core call (work.Put run)
+pub put_computable : {core : Core} (call : ScriptCall) {run : PutRun} {block : ToFill} → MayGoOn core call (work.Put run)
     → left_to_fill run run.filled ≡ Some block → IsFillable block (fill_bytes call.fill)
-put_ahead call may left = grind (arith, put_fillable)
+put_computable call may left = grind (arith, put_fillable)
 
 -- ---- attaches
 
 -- A turn of an attach is that of its call.
 pub attach_by : (before after : CoreState) (call : ScriptCall) (run : AttachRun) (turn : Turn AttachRun)
-    → StepsAttach before run after turn → IsMoreAttach after.core after.disk turn
-    → GoesOnBy before after call (work.Attach run) (attach_turn turn)
-attach_by before after call run turn steps of = grind arith
+    (result : Turn Work) → StepsAttach before run after turn → IsMoreAttach after.core after.disk turn
+    → MapsTurn (λ next does. does ≡ work.Attach next) turn result
+    → GoesOnBy before after call (work.Attach run) result
+attach_by before after call run turn result steps of maps = grind arith
 
 -- ---- copies
 
 -- So is one of a copy.
 pub copy_by : (before after : CoreState) (call : ScriptCall) (round : CopyRound) (turn : Turn CopyRound)
-    → StepsCopy before round after turn → IsMoreRound after.core turn
-    → GoesOnBy before after call (work.Copy round) (copy_turn turn)
-copy_by before after call round turn steps of = grind arith
+    (result : Turn Work) → StepsCopy before round after turn → IsMoreRound after.core turn
+    → MapsTurn (λ next does. does ≡ work.Copy next) turn result
+    → GoesOnBy before after call (work.Copy round) result
+copy_by before after call round turn result steps of maps = grind arith
 
--- One for whose next group memory is wanting ends there, and nothing is done.
+-- One for whose next group there is no memory ends there, and nothing is done.
 pub lacks_room : (state : CoreState) (call : ScriptCall) (does : Work) {made : Option ℕ} → made ≡ made_in does
     → IsTrue (is_some made) → GoesOnBy state state call does (Done answer.NoMemory)
 lacks_room state call other is some = grind (arith, false≢true)

@@ -5,7 +5,7 @@ use Rattle.schedule.proofs.Words.{replicate, take, All, ◌==◌, ⊤, append-ni
 use Rattle.schedule.proofs.Words.{replicate_more, length-filter_both, slice_get_within, Answer, Kind, Entry, Item}
 use Rattle.schedule.proofs.Words.{Group, Call, CallAt, GroupAt, IsAnswerOf, ScriptCall, Placed, Script, calls_of, Rests}
 use Rattle.schedule.proofs.Words.{Copies, Turn, More, Busy, Done, Core, CoreState, point_after, new_or_before, Client}
-use Rattle.schedule.proofs.Words.{UnderWay, Work, answered_of, HaveTaken, IsTurnOf, FollowsLines, callers_in, Station}
+use Rattle.schedule.proofs.Words.{UnderWay, Work, answered_of, HaveTaken, IsTurnOf, FollowsLines, callers_in, TurnState}
 use Rattle.schedule.proofs.Words.{Turned, BeginsCall, BeginsWork, GoesOnBy, LeavesBegun, LeavesGoing, entry_for}
 use Rattle.schedule.proofs.Words.{group_by, group_for, listed_for, listed_of, listed_on, begun_at, made_by, made_in}
 use Rattle.schedule.proofs.Words.{Turns, TurnTaken, last_left, first_turns, ⊎_elim, get_or, blank_client}
@@ -119,7 +119,7 @@ begun_copy : (old new : Core) (devices actor : ℕ) (call : ScriptCall) (asked :
     → BeginsWork old new devices actor call asked id does → IsCopyFor asked does
 begun_copy old new devices actor call asked id does begins = grind arith
 
-module _ {script : Script} (before after : Station) (goes : GoesAlone script before.items before.client) where
+module _ {script : Script} (before after : TurnState) (goes : GoesAlone script before.items before.client) where
   abbrev Now : List Item → Client → Type 0
   Now items client = GoesAlone script items client
 

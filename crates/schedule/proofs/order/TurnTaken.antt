@@ -7,7 +7,7 @@ use Rattle.schedule.proofs.Words.{Commits, HoldingCall, Copying, Putting, Readin
 use Rattle.schedule.proofs.Words.{Changes, Comes, TakesTurn, IsSchedule, Turns, turns_of, AreCopiers, AreSharers}
 use Rattle.schedule.proofs.Words.{HasRoomForAnswers, IsReady, calls_by, taken_of, AreIdle, HasTurn, TakesOne, AreGoing}
 use Rattle.schedule.proofs.Words.{IsGoing, IsWorkFor, IsWorkOf, calls_under_way, commit_in, held_by, HasDeviceUnder}
-use Rattle.schedule.proofs.Words.{MayGoOn, Station, Turned, first_listed, slice_get_read, length-set}
+use Rattle.schedule.proofs.Words.{MayGoOn, TurnState, Turned, first_listed, slice_get_read, length-set}
 use Rattle.schedule.specs.declared.client.Work.TheVariants as work
 use Rattle.std.proofs.lemmas.List.{get_or-set_same}
 use Rattle.schedule.proofs.run.Coming.{came_nowhere}
@@ -87,14 +87,14 @@ changes_at : (clients : List Client) (place : ℕ) {actor : ℕ} (client : Clien
 changes_at clients place client same low = search (set_here, set_others, arith)
 
 -- A turn leaves what each leaves, since the call under way is what the script asks for.
-leaves_of : {script : Script} {actor : ℕ} {before after : Station} {clients : List Client}
+leaves_of : {script : Script} {actor : ℕ} {before after : TurnState} {clients : List Client}
     → AreGoing script before.state.core clients → slice_get clients actor ≡ Some before.client
     → IsCore before.state.core
     → Turned (calls_of script actor) actor before after → TurnLeaves (calls_of script actor) actor before after
 leaves_of going was is turned = search (turn_leaves, going_may)
 
 -- Where a client had a turn, the others stay as they are.
-pub takes_turn : {script : Script} {place actor : ℕ} {before : Station} (after : Station) {clients : List Client}
+pub takes_turn : {script : Script} {place actor : ℕ} {before : TurnState} (after : TurnState) {clients : List Client}
     → IsSchedule script (turns_of before.state before.items clients) → slice_get clients actor ≡ Some before.client
     → place ≡ actor → place < length clients → IsCore before.state.core
     → Lawful before.state.disk × Lawful after.state.disk → HasDeviceUnder after.state.disk after.client.under_way
@@ -105,7 +105,7 @@ takes_turn {place = place} after {clients} schedule was same low is lawful there
     let leaves = leaves_of schedule.going was is turned in search (turn_uses, turn_drops, turn_numbers, arith)
 
 -- A client of the script took a turn.
-module _ {script : Script} {actor : ℕ} {before after : Station} (clients : List Client) {news : List Client}
+module _ {script : Script} {actor : ℕ} {before after : TurnState} (clients : List Client) {news : List Client}
     (takes : TakesTurn script actor before after clients news)
     (allowed : All (λ placed. IsAllowed placed.call) script.calls) (copying : AreCopiers clients before.state.core)
     (sharing : AreSharers clients before.state.core)

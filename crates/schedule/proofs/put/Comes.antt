@@ -3,7 +3,7 @@ use Rattle.schedule.proofs.Words.{◌≡◌, ◌≢◌, ℕ, List, length, Some,
 use Rattle.schedule.proofs.Words.{AreBytes, Answer, Entry, map_of, ScriptCall, fill_bytes, Script, calls_of, PutRun}
 use Rattle.schedule.proofs.Words.{More, Busy, Done, BeginsPutTurn, LeavesBlocks, HoldingCall, actor_of, keeps_gained}
 use Rattle.schedule.proofs.Words.{begins_rearranges, put_begins_calls, put_refused_calls, put_begins_stands}
-use Rattle.schedule.proofs.Words.{put_refused_stands, Client, calls_under_way, Station, LeavesBegun, TakesTurn}
+use Rattle.schedule.proofs.Words.{put_refused_stands, Client, calls_under_way, TurnState, LeavesBegun, TakesTurn}
 use Rattle.core_state.specs.declared.answer.Kind.TheVariants as kind
 use Rattle.schedule.specs.declared.client.Work.TheVariants as work
 use Rattle.schedule.proofs.turn.Fitting.{IsPlainKind, fits, plain_no_limit}
@@ -17,7 +17,7 @@ use Rattle.schedule.proofs.put.Puts.{Refuses, put_refused, unstored_plain, unsto
 use Rattle.schedule.proofs.put.Puts.{rearranged_leaves, refused_leaves}
 use Rattle.schedule.proofs.turn.LeavesPool.{LeavesPool}
 
-module _ {script : Script} {actor : ℕ} {before after : Station} {clients news : List Client}
+module _ {script : Script} {actor : ℕ} {before after : TurnState} {clients news : List Client}
     (takes : TakesTurn script actor before after clients news) {call : ScriptCall} {id : ℕ}
     (asked : call.kind ≡ kind.Put) (id_is : call.id ≡ Some id) (idle : before.client.under_way ≡ None)
     (next : slice_get (calls_of script actor) before.client.begun ≡ Some call)
@@ -58,7 +58,7 @@ module _ {script : Script} {actor : ℕ} {before after : Station} {clients news 
       → LeavesBegun actor call before after (Busy by) → ItComes takes
   put_waits waits leaves = search (comes_waiting, refused_leaves, put_refused_calls, refused_stands)
 
-  -- One is refused: too many devices are out, the table is full, no run of free sectors fits, or memory is wanting.
+  -- One is refused: too many devices are out, the table is full, no run of free sectors fits, or memory is exhausted.
   pub put_at_once : (given : Answer) → BeginsPutTurn old now actor id (length content) (Done given)
       → LeavesBegun actor call before after (Done given) → ItComes takes
   put_at_once given is leaves =

@@ -66,7 +66,7 @@ given_up_stopped {old = old} stopped = record {
   other = λ full. cc;
 }
 
--- and where memory is wanting to fill it in.
+-- and where there is no memory to fill it in.
 given_up_turn : {old new : Core} {run : PutRun} (given : Answer) → GivesUpTurn old run new (Done given)
     → IsGivenUp old new run given
 given_up_turn answer.NoMemory is =

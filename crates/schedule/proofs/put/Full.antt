@@ -1,5 +1,5 @@
 -- A put that is refused as full, while others are under way, is one of more ids than a table has room for.
-use Rattle.schedule.proofs.Words.{◌≡◌, ◌≢◌, ⊎_elim, ℕ, ◌+◌, ◌-◌, ◌<◌, List, [], ◌∷◌, ◌++◌, length, Some, subst, arith}
+use Rattle.schedule.proofs.Words.{◌≡◌, ◌≢◌, ⊎_elim, ℕ, ◌-◌, ◌<◌, List, [], ◌∷◌, ◌++◌, length, Some, subst, arith}
 use Rattle.schedule.proofs.Words.{Contains, count_by, nat_eq, ◌==◌, slice_get, is_member, unique_keys, eqb-true}
 use Rattle.schedule.proofs.Words.{false≢true, sum_by-cons, IsFull, ids_of, known_ids, held_is, known_split, Answer}
 use Rattle.schedule.proofs.Words.{Kind, Entry, Item, Group, Map, IsAnswerOf, World, puts_of, first_listed, rest_listed}

@@ -6,7 +6,7 @@ use Rattle.schedule.proofs.Words.{fill_bytes, Script, calls_of, PutRun, More, Do
 use Rattle.schedule.proofs.Words.{Putting, AreCallsOf, Stands, TurnGoesOn, keeps_ended, Rearranges, ends_rearranges}
 use Rattle.schedule.proofs.Words.{gives_up_rearranges, put_ends_calls, put_gives_up_calls, put_writes_calls}
 use Rattle.schedule.proofs.Words.{put_ends_stands, put_gives_up_stands, put_shared, put_writes_stands, put_writes_since}
-use Rattle.schedule.proofs.Words.{Client, UnderWay, IsWorkFor, Runs, calls_under_way, setting_now, Station, EndsPutting}
+use Rattle.schedule.proofs.Words.{Client, UnderWay, IsWorkFor, Runs, calls_under_way, setting_now, TurnState, EndsPutting}
 use Rattle.schedule.proofs.Words.{GoesOnPutting, IsFilledIn, LeavesGoing, entry_for, made_by, IsWorldOf, TakesTurn}
 use Rattle.schedule.proofs.Words.{Past}
 use Rattle.core_state.specs.declared.answer.Answer.TheVariants as answer
@@ -21,7 +21,7 @@ use Rattle.schedule.proofs.put.Puts.{unstored_plain, unstored_answers, unstored_
 use Rattle.schedule.proofs.turn.LeavesPool.{out_keeps}
 use Rattle.schedule.proofs.put.Ends.{FilledAmong, IsGivenUp, IsWhole, fills_among, fills_same, put_ended}
 
-module _ {script : Script} {actor : ℕ} {before after : Station} {clients news : List Client}
+module _ {script : Script} {actor : ℕ} {before after : TurnState} {clients news : List Client}
     (takes : TakesTurn script actor before after clients news) {call : ScriptCall} {under : UnderWay} {run : PutRun}
     (does_is : under.work ≡ work.Put run) (under_is : before.client.under_way ≡ Some under)
     (is : slice_get (calls_of script actor) (before.client.begun - 1) ≡ Some call)
@@ -124,7 +124,7 @@ module _ {script : Script} {actor : ℕ} {before after : Station} {clients news 
         id_is : call.id ≡ Some filled.range.id
         id_is = asked_for.1 ∙ ap (λ (r : PutRun). Some r.range.id) (sym same)
 
-    -- It is given up: too many devices are out, or memory is wanting.
+    -- It is given up: too many devices are out, or memory is exhausted.
     put_given_up : IsGivenUp old now filled given → ItComes takes
     put_given_up given_up = ends_with
         (ended.0 ∙ unstored_listed now before.items under.at entry (made_by under.work) given given_up.unstored)

@@ -5,7 +5,7 @@ use Rattle.schedule.proofs.Words.{IsAnswerOf, found_id, gains_item, IsReadRight,
 use Rattle.schedule.proofs.Words.{map_at_end, GetRun, More, Busy, Done, IsReadKind, BeginsGet, HoldingCall, Reading}
 use Rattle.schedule.proofs.Words.{TurnGoesOn, actor_of, since_read, get_finds, keeps_gained, get_begins_stands}
 use Rattle.schedule.proofs.Words.{get_reads_stands, get_begins_calls, get_reads_calls, Client, UnderWay, IsWorkFor}
-use Rattle.schedule.proofs.Words.{calls_under_way, Station, GoesOnReading, EndsReading, LeavesBegun, LeavesGoing}
+use Rattle.schedule.proofs.Words.{calls_under_way, TurnState, GoesOnReading, EndsReading, LeavesBegun, LeavesGoing}
 use Rattle.schedule.proofs.Words.{entry_for, TakesTurn}
 use Rattle.core_state.specs.declared.answer.Answer.TheVariants as answer
 use Rattle.schedule.specs.declared.client.Work.TheVariants as work
@@ -21,7 +21,7 @@ use Rattle.schedule.proofs.turn.Comes.{GoesFrom, ItComes, comes_begun, comes_fin
 use Rattle.schedule.proofs.turn.Comes.{comes_working, held_gains, held_gone, held_moves, its_asked, its_content}
 use Rattle.schedule.proofs.turn.Comes.{its_going, its_work}
 
-module _ {script : Script} {actor : ℕ} {before after : Station} {clients news : List Client}
+module _ {script : Script} {actor : ℕ} {before after : TurnState} {clients news : List Client}
     (takes : TakesTurn script actor before after clients news) (call : ScriptCall) where
   open before.state use {core as old}
   open after.state use {core as now}

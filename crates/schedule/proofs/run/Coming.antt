@@ -1,11 +1,11 @@
 -- Turns that go on from where others came to.
-use Rattle.schedule.proofs.Words.{◌≡◌, Later, ◌⊎◌, inl, inr, ⊎_elim, ℕ, ◌+◌, ◌≤◌, ◌<◌, List, [], ◌∷◌, ◌++◌, Some, refl}
+use Rattle.schedule.proofs.Words.{◌≡◌, Later, inl, inr, ⊎_elim, ℕ, ◌+◌, ◌≤◌, ◌<◌, List, [], ◌∷◌, ◌++◌, Some, refl}
 use Rattle.schedule.proofs.Words.{sym, ◌∙◌, subst, arith, slice_get, cases_lt, true≢false, Disk, later_refl}
 use Rattle.schedule.proofs.Words.{later_trans, touches_then, touches_widen, count_of, has_device, IsWithin, none_in}
 use Rattle.schedule.proofs.Words.{Item, CallAt, World, point_of, outs_then, IsOnInUse, in_use_before, count_grows}
 use Rattle.schedule.proofs.Words.{WhyDropped, ScriptCall, Script, calls_of, grown_has, CoreState, HasBankOf}
 use Rattle.schedule.proofs.Words.{AttachGoesOn, TurnGoesOn, as_attach, turn_bank, turn_still, append-nil, AttachesNone}
-use Rattle.schedule.proofs.Words.{GoesOnFor, IsWorldOf, LeadTo, KeepsUsing, StaysAsWide, Turns, TurnTaken, last_left}
+use Rattle.schedule.proofs.Words.{GoesOnFor, HasToBear, IsWorldOf, LeadTo, StoodAt, KeepsUsing, StaysAsWide, Turns, TurnTaken, last_left}
 use Rattle.schedule.proofs.Words.{AreListedWith, HasDropCause, IsDropCause, IsToBeTold, IsDeviceCause, IsNumbered, Runs}
 use Rattle.schedule.proofs.Words.{Past}
 use Rattle.std.proofs.Common.{true}
@@ -17,22 +17,32 @@ use Rattle.schedule.proofs.put.Full.{FullStays, full_same}
 none_out : (device : ℕ) → has_device 0 device ≡ true → ⊥
 none_out device out = true≢false (sym out ∙ none_in device)
 
--- The devices whose failure has to be borne, where these were out at first and those later: no more than there are
--- parities, all of them where no more were out, and none where too many were.
-abbrev Bears : ℕ → ℕ → ℕ → Type 0
-Bears out parity later = (borne : ℕ) × (count_of borne ≤ parity) × (count_of out ≤ parity → IsWithin out borne)
-    × (parity < count_of out → IsWithin borne 0) × IsWithin borne later
+-- Some devices have to be borne.
+record Bears (before after : CoreState) : Type 0 where
+  pub borne : ℕ
+  pub bears : HasToBear before after borne
 
-bears : (out parity later : ℕ) → IsWithin out later → Bears out parity later
-bears out parity later still = ⊎_elim
-    (λ (few : count_of out ≤ parity). (out, few, (λ few device is. is), (λ many. absurd (omega arith)), still))
-    (λ (many : parity < count_of out). (
-      0,
-      search none_listed,
-      (λ few. absurd (omega (arith, few, many))),
-      (λ many device is. is),
-      (λ device is. absurd (none_out device is)),
-    )) (search (cases_lt, arith))
+-- All that were out at first, where no more were than there are parities, and none where too many were.
+bears : (before after : CoreState) → IsWithin before.core.pool.out after.core.pool.out → Bears before after
+bears before after still = ⊎_elim
+    (λ (few : count_of before.core.pool.out ≤ before.core.pool.uber.parity). record {
+      borne = before.core.pool.out;
+      bears = record {
+        few = few;
+        from_start = λ few device is. is;
+        stopped = λ many. absurd (omega arith);
+        within = still;
+      };
+    })
+    (λ (many : before.core.pool.uber.parity < count_of before.core.pool.out). record {
+      borne = 0;
+      bears = record {
+        few = search none_listed;
+        from_start = λ few. absurd (omega (arith, few, many));
+        stopped = λ many device is. is;
+        within = λ device is. absurd (none_out device is);
+      };
+    }) (search (cases_lt, arith))
 
 -- A turn of a call that is no attach goes on so,
 pub goes_for : {before after : CoreState} {script : Script} → TurnGoesOn before after → GoesOnFor script before after
@@ -57,33 +67,30 @@ pub came : {script : Script} {before after : Turns} {passed : List TurnTaken} �
     → Runs world script past before.state before.items before.clients
     → Runs world script past after.state after.items after.clients) → FullStays script before after
     → LeadTo script before passed after
-came {before = before} {after} ends on space numbers dropped more items fit runs full = record {
+came {script = script} {before = before} {after} {passed} ends on space numbers dropped more items fit runs full = record {
   ends = ends;
-  later = on.goes.later;
-  parity = on.goes.parity;
-  reach = reach_is;
-  only = touches_widen (IsOnInUse (before.state.core.reach + 1) before.state.core.pool.out)
-      (IsOnInUse (after.state.core.reach + 1) before.state.core.pool.out) (search (reach_is, arith)) on.goes.only;
-  same = on.same;
-  out = on.goes.out;
-  listed = search (grown_has, arith);
-  fits = fit;
-  dropped = dropped;
-  borne = its.0;
-  few = its.1;
-  from_start = its.2;
-  stopped = its.3;
-  within = its.4;
-  runs = λ world past handed stood within listed.
-      runs world past handed (λ few device out. within device (its.2 few device out)) listed stood;
-  full = λ world past handed stood within listed. full world past handed stood;
+  pool = record {
+    later = on.goes.later;
+    parity = on.goes.parity;
+    reach = reach_is;
+    only = touches_widen (IsOnInUse (before.state.core.reach + 1) before.state.core.pool.out)
+        (IsOnInUse (after.state.core.reach + 1) before.state.core.pool.out) (search (reach_is, arith)) on.goes.only;
+    same = on.same;
+    out = on.goes.out;
+  };
+  journal = record { listed = search (grown_has, arith); fits = fit; dropped = dropped; numbers = numbers };
   space = space;
-  numbers = numbers;
+  borne = its.borne;
+  bears = its.bears;
+  stands = record {
+    runs = λ world past at. runs world past at.world_of
+        (λ few device out. at.borne_in device (its.bears.from_start few device out)) at.with_banks at.stood;
+    full = λ world past at. full world past at.world_of at.stood;
+  };
 }
   where
-    its : Bears before.state.core.pool.out before.state.core.pool.uber.parity after.state.core.pool.out
-    its = bears before.state.core.pool.out before.state.core.pool.uber.parity after.state.core.pool.out
-        on.goes.out.still
+    its : Bears before.state after.state
+    its = bears before.state after.state on.goes.out.still
 
     reach_is : before.state.core.reach ≤ after.state.core.reach
     reach_is = search arith
@@ -128,8 +135,8 @@ module _ (script : Script) (start middle now : Turns) (one two : List TurnTaken)
 
   as_wide_then : AttachesNone script → StaysAsWide start.state now.state
   as_wide_then none =
-      let one = first.same none in
-      let two = second.same none in record {
+      let one = first.pool.same none in
+      let two = second.pool.same none in record {
         reach = cc;
         only = touches_then (IsOnInUse start.state.core.reach start.state.core.pool.out)
             (IsOnInUse middle.state.core.reach middle.state.core.pool.out)
@@ -153,68 +160,98 @@ module _ (script : Script) (start middle now : Turns) (one two : List TurnTaken)
         limit = fit.limit;
         memory = fit.memory;
         device = search (device_cause_on, dropped_before);
-      })) (first.fits index entry was))
+      })) (first.journal.fits index entry was))
       (λ fit. inr (record {
         of_kind = fit.of_kind;
         too_many = λ listed is. let many = fit.too_many listed is in search arith;
         limit = fit.limit;
         memory = fit.memory;
-        device = subst (λ (n : ℕ). IsDeviceCause n (HasDropCause start now) entry.answer) first.later.devices
+        device = subst (λ (n : ℕ). IsDeviceCause n (HasDropCause start now) entry.answer) first.pool.later.devices
             (search (device_cause_on, dropped_since));
-      })) (second.fits index entry there)
+      })) (second.journal.fits index entry there)
 
   -- the devices that have to be borne in both
-  both : (its : Bears start.state.core.pool.out start.state.core.pool.uber.parity now.state.core.pool.out)
-      × IsWithin first.borne its.0 × IsWithin second.borne its.0
-  both = ⊎_elim
-      (λ (few : count_of middle.state.core.pool.out ≤ middle.state.core.pool.uber.parity). (
-        (second.borne, search arith, search arith, search (count_grows, arith), second.within),
-        (λ device out. second.from_start few device (first.within device out)),
-        (λ device out. out),
-      ))
-      (λ (many : middle.state.core.pool.uber.parity < count_of middle.state.core.pool.out). (
-        (first.borne, first.few, first.from_start, first.stopped, search arith),
-        (λ device out. out),
-        (λ device out. absurd (none_out device (second.stopped many device out))),
-      )) (search (cases_lt, arith))
+  record BearsBoth : Type 0 where
+    pub borne : ℕ
+    pub bears : HasToBear start.state now.state borne
+    pub in_one : IsWithin first.borne borne
+    pub in_two : IsWithin second.borne borne
 
-  -- What stood at the start stands where the first turns led to.
-  stands_then : (world : World) (past : Past) → IsWorldOf script world
-      → Runs world script past start.state start.items start.clients → IsWithin both.0.0 world.setting.failed
-      → AreListedWith past.banks start (one ++ two) → Runs world script past middle.state middle.items middle.clients
-  stands_then world past handed runs within listed =
-      first.runs world past handed runs (λ device out. within device (both.1 device out)) (split past.banks listed).0
+  both : BearsBoth
+  both = ⊎_elim
+      (λ (few : count_of middle.state.core.pool.out ≤ middle.state.core.pool.uber.parity). record {
+        borne = second.borne;
+        bears = record {
+          few = let most = second.bears.few in let same = first.pool.parity in omega (arith, most, same);
+          from_start = λ at device out. second.bears.from_start few device (first.pool.out.still device out);
+          stopped = λ many. absurd (
+              let more = count_grows start.state.core.pool.out middle.state.core.pool.out first.pool.out.still in
+              let same = first.pool.parity in omega (arith, few, many, more, same));
+          within = second.bears.within;
+        };
+        in_one = λ device out. second.bears.from_start few device (first.bears.within device out);
+        in_two = λ device out. out;
+      })
+      (λ (many : middle.state.core.pool.uber.parity < count_of middle.state.core.pool.out). record {
+        borne = first.borne;
+        bears = record {
+          few = first.bears.few;
+          from_start = first.bears.from_start;
+          stopped = first.bears.stopped;
+          within = λ device out. second.pool.out.still device (first.bears.within device out);
+        };
+        in_one = λ device out. out;
+        in_two = λ device out. absurd (none_out device (second.bears.stopped many device out));
+      }) (search (cases_lt, arith))
+
+  -- What stood at the start stood for the first turns,
+  stood_first : {world : World} {past : Past} → StoodAt script start (one ++ two) both.borne world past
+      → StoodAt script start one first.borne world past
+  stood_first {world = world} {past = past} at = record {
+    world_of = at.world_of;
+    stood = at.stood;
+    borne_in = λ device out. at.borne_in device (both.in_one device out);
+    with_banks = (split past.banks at.with_banks).0;
+  }
+
+  -- and stands where these led to, for the second.
+  stood_second : {world : World} {past : Past} → StoodAt script start (one ++ two) both.borne world past
+      → StoodAt script middle two second.borne world past
+  stood_second {world = world} {past = past} at = record {
+    world_of = at.world_of;
+    stood = first.stands.runs world past (stood_first at);
+    borne_in = λ device out. at.borne_in device (both.in_two device out);
+    with_banks = (split past.banks at.with_banks).1;
+  }
 
   pub came_on : LeadTo script start (one ++ two) now
   came_on = record {
     ends = search (last_then, arith);
-    later = later_trans first.later second.later;
-    parity = cc;
-    reach = search arith;
-    only = touches_then (IsOnInUse (middle.state.core.reach + 1) start.state.core.pool.out)
-        (IsOnInUse (now.state.core.reach + 1) middle.state.core.pool.out)
-        (IsOnInUse (now.state.core.reach + 1) start.state.core.pool.out) (search arith)
-        (in_use_then (now.state.core.reach + 1)) first.only second.only;
-    same = as_wide_then;
-    out = outs_then (point_of start.state.core.pool.out start.state.disk)
-        (point_of middle.state.core.pool.out middle.state.disk) (point_of now.state.core.pool.out now.state.disk)
-        first.later.faults second.later.faults first.out second.out;
-    listed = λ index item there. second.listed index item (first.listed index item there);
-    fits = fits_then;
-    dropped = λ cause told. dropped_since cause (second.dropped cause told);
-    borne = both.0.0;
-    few = both.0.1;
-    from_start = both.0.2;
-    stopped = both.0.3;
-    within = both.0.4;
-    runs = λ world past handed runs within listed.
-        second.runs world past handed (stands_then world past handed runs within listed)
-        (λ device out. within device (both.2 device out)) (split past.banks listed).1;
-    full = λ world past handed runs within listed caused.
-        second.full world past handed (stands_then world past handed runs within listed)
-        (λ device out. within device (both.2 device out)) (split past.banks listed).1
-        (first.full world past handed runs (λ device out. within device (both.1 device out))
-        (split past.banks listed).0 caused);
+    pool = record {
+      later = later_trans first.pool.later second.pool.later;
+      parity = second.pool.parity ∙ first.pool.parity;
+      reach = let one = first.pool.reach in let two = second.pool.reach in omega (arith, one, two);
+      only = touches_then (IsOnInUse (middle.state.core.reach + 1) start.state.core.pool.out)
+          (IsOnInUse (now.state.core.reach + 1) middle.state.core.pool.out)
+          (IsOnInUse (now.state.core.reach + 1) start.state.core.pool.out) (search arith)
+          (in_use_then (now.state.core.reach + 1)) first.pool.only second.pool.only;
+      same = as_wide_then;
+      out = outs_then (point_of start.state.core.pool.out start.state.disk)
+          (point_of middle.state.core.pool.out middle.state.disk) (point_of now.state.core.pool.out now.state.disk)
+          first.pool.later.faults second.pool.later.faults first.pool.out second.pool.out;
+    };
+    journal = record {
+      listed = λ index item there. second.journal.listed index item (first.journal.listed index item there);
+      fits = fits_then;
+      dropped = λ cause told. dropped_since cause (second.journal.dropped cause told);
+      numbers = λ numbered. second.journal.numbers (first.journal.numbers numbered);
+    };
     space = λ uber entries used. second.space uber entries (first.space uber entries used);
-    numbers = λ numbered. second.numbers (first.numbers numbered);
+    borne = both.borne;
+    bears = both.bears;
+    stands = record {
+      runs = λ world past at. second.stands.runs world past (stood_second at);
+      full = λ world past at caused. second.stands.full world past (stood_second at)
+          (first.stands.full world past (stood_first at) caused);
+    };
   }

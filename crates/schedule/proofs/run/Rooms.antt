@@ -1,5 +1,5 @@
 -- Room in a journal for the answers of calls.
-use Rattle.schedule.proofs.Words.{◌≡◌, ℕ, ◌+◌, ◌-◌, ◌*◌, ◌≤◌, ◌<◌, ◌≢◌, List, [], ◌∷◌, length, Option, Some, None, zero}
+use Rattle.schedule.proofs.Words.{◌≡◌, ℕ, ◌+◌, ◌*◌, ◌≤◌, ◌<◌, ◌≢◌, List, [], ◌∷◌, length, Option, Some, None, zero}
 use Rattle.schedule.proofs.Words.{suc, refl, ◌∙◌, ap, arith, ne_eqb, slice_set, filter, slice_get, ◌==◌, cases_eq}
 use Rattle.schedule.proofs.Words.{length-map, Answer, Entry, ScriptCall, Placed, Script, More, Done, Client, UnderWay}
 use Rattle.schedule.proofs.Words.{Work, HasRoomForAnswers, MakesRoom, UsesRoom, all_owed, calls_by, owed, taken_for}

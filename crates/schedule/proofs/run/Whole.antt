@@ -10,7 +10,7 @@ use Rattle.schedule.proofs.Words.{KeepsLast, NoSpaceIsCaused, BeginsAfter, first
 use Rattle.schedule.proofs.Words.{CoreState, at_disk, Client, Ended, Whole, NoMemory, Limit, FullIsCaused, LeadTo}
 use Rattle.schedule.proofs.Words.{HasDropCause, IsDropCause, FitsCall, FitsSince, turns_of, TurnTaken, Turns, bank_when}
 use Rattle.schedule.proofs.Words.{Cursor, InOrder, HaveTaken, Replay, replay_at, Past, EndsAs, blank_clients, Runs, Ran}
-use Rattle.schedule.proofs.Words.{HasRun, HasRunInTurn, HasTakenTurns, RunKeeps, first_turns}
+use Rattle.schedule.proofs.Words.{HasRun, HasRunInTurn, HasTakenTurns, RunKeeps, StoodAt, first_turns}
 use Rattle.std.proofs.Common.{true}
 use Rattle.core_state.specs.declared.item.Group.{Group as GroupItem}
 use Rattle.core_open.specs.Opens.{HasBank}
@@ -78,7 +78,7 @@ module _ {script : Script} {old mid : Disk} {pool : Pool} {silent : ℕ} {items 
       (missed_in : IsWithinBelow first.uber.reflow.to silent setting.failed)
       (borne_in : IsWithin come.borne setting.failed) where
     begins : OpensPool setting first later pool silent old mid
-    begins = begun.each setting first later may missed_in (search arith)
+    begins = let all = come.bears.from_start few in begun.each setting first later may missed_in (search arith)
 
     abbrev world : World
     world = opened_world (asked_by script) (handed_by script) begins
@@ -87,13 +87,20 @@ module _ {script : Script} {old mid : Disk} {pool : Pool} {silent : ℕ} {items 
     first_runs = runs_first (asked_by script) (handed_by script) begins may.may.parity past refl
         (at_start first_state passed (omega arith)) opened_later bank script script.clients
 
+    stood : StoodAt script first_state passed come.borne world past
+    stood = record {
+      world_of = record { calls = refl; handed = refl };
+      stood = first_runs;
+      borne_in = borne_in;
+      with_banks = are_listed script first_state passed taken;
+    }
+
     runs : Runs world script past final items clients
-    runs = search (first_runs, are_listed, arith)
+    runs = come.stands.runs world past stood
 
     -- The journal that the opening left has no answers.
     full : FullIsCaused script begins.opened.chosen.map items
-    full = come.full world past (record { calls = refl; handed = refl }) first_runs borne_in
-        (are_listed script first_state passed taken) (search (no_call, arith))
+    full = come.stands.full world past stood (search (no_call, arith))
 
     abbrev run_groups : List Kept
     run_groups = (first ∷ later) ++ runs.recorded.groups.answered ++ runs.recorded.groups.begun
@@ -106,7 +113,7 @@ module _ {script : Script} {old mid : Disk} {pool : Pool} {silent : ℕ} {items 
     begins_after : BeginsAfter begins.opened.chosen items
     begins_after = record {
       first = item;
-      there = come.listed 0 (Group item) refl;
+      there = come.journal.listed 0 (Group item) refl;
       number = search arith;
       widths = search arith;
     }
@@ -128,20 +135,26 @@ module _ {script : Script} {old mid : Disk} {pool : Pool} {silent : ℕ} {items 
     unfolding begins
     run_keeps = record {
       chosen = begins.opened.chosen;
-      known = begins.opened.listed;
-      choice = begins.opened.choice;
-      begins = begins_after;
-      legal = record { groups = runs.recorded.in_order; calls_are = calls; answers = runs.recorded.right };
-      sound = runs.recorded.sound;
-      caused = runs.recorded.caused;
-      full = full.each;
-      no_space = no_space;
+      origin = record {
+        known = begins.opened.listed;
+        choice = begins.opened.choice;
+        begins = begins_after;
+      };
+      journal = record {
+        legal = record { groups = runs.recorded.in_order; calls_are = calls; answers = runs.recorded.right };
+        sound = runs.recorded.sound;
+        caused = runs.recorded.caused;
+        full = full.each;
+        no_space = no_space;
+      };
       any_moment = recorded_throughout runs.recorded;
       no_older = recorded_no_older runs.recorded last_bank;
       kept = at_end.0;
-      kept_among = at_end.1;
-      parities = runs.recorded.parity first (contains_head first later);
-      parity_is = sym (opened_parity may.may.parity begins.opened);
+      groups = record {
+        kept_among = at_end.1;
+        parities = runs.recorded.parity first (contains_head first later);
+        parity_is = sym (opened_parity may.may.parity begins.opened);
+      };
     }
 
   -- No attach was under way as the run began, so what one tells has come since.
@@ -166,41 +179,51 @@ module _ {script : Script} {old mid : Disk} {pool : Pool} {silent : ℕ} {items 
   pub has_run : HasRun script old final.disk items final.core.pool.out
   has_run = record {
     opened = item;
-    there = come.listed 0 (Group item) refl;
     start = at_disk (resting pool) mid;
-    rest = search;
-    opened_is = refl;
-    bank = bank;
-    later = opened_later;
-    passed = passed;
-    taken = taken;
-    onward = come.later;
-    items_are = search arith;
-    disk_is = cc;
+    opens = record {
+      there = come.journal.listed 0 (Group item) refl;
+      opened_is = refl;
+      rest = search;
+      bank = bank;
+      later = opened_later;
+    };
     silent = silent;
-    failed = failed;
-    renews = renews;
-    writes = writes;
+    opening = record { failed = failed; renews = renews; writes = writes };
+    passed = passed;
+    turns = record {
+      taken = taken;
+      onward = come.pool.later;
+      items_are = ap (λ (turns : Turns). turns.items) come.ends;
+      disk_is = ap (λ (turns : Turns). turns.state.disk) come.ends;
+    };
     parity = pool.uber.parity;
-    only = rw come.ends (touches_then (IsOnBelow pool.uber.reflow.to) (IsOnInUse (final.core.reach + 1) pool.out)
-        (IsOnBelow (final.core.reach + 1))
-        (λ d x here. let more = come.reach in omega (arith, here, more)) (λ d x here. here.0) opened_only come.only);
-    same = λ none. touches_then (IsOnBelow pool.uber.reflow.to) (IsOnInUse pool.uber.reflow.to pool.out)
-        (IsOnBelow pool.uber.reflow.to) (λ d x here. here) (λ d x here. here.0) opened_only (come.same none).only;
-    each = search out_later;
-    calls = calls;
-    fits = λ index entry there. ⊎_elim (λ at. absurd (no_call item index at)) (fits_run entry)
-        (come.fits index entry there);
-    numbers = (come.numbers (first_numbered pool)).numbered;
-    lines = λ one actors. follows_lines script (at_disk (resting pool) mid) item passed items taken
-        (ap (λ (turns : Turns). turns.items) come.ends) refl
-        (λ index entry there. ⊎_elim (λ at. absurd (no_call item index at)) (λ fit. fit.of_kind)
-        (come.fits index entry there)) one actors;
+    devices = record {
+      each = λ image holds. out_later old mid final.disk pool.uber silent pool.out final.core.pool.out opened_later
+          come.pool.later outs come.pool.out image holds;
+      only = rw come.ends (touches_then (IsOnBelow pool.uber.reflow.to) (IsOnInUse (final.core.reach + 1) pool.out)
+          (IsOnBelow (final.core.reach + 1)) (λ d x here. let more = come.pool.reach in omega (arith, here, more))
+          (λ d x here. here.0) opened_only come.pool.only);
+      same = λ none. touches_then (IsOnBelow pool.uber.reflow.to) (IsOnInUse pool.uber.reflow.to pool.out)
+          (IsOnBelow pool.uber.reflow.to) (λ d x here. here) (λ d x here. here.0) opened_only
+          (come.pool.same none).only;
+    };
+    answers = record {
+      calls = calls;
+      fits = λ index entry there. ⊎_elim (λ at. absurd (no_call item index at)) (fits_run entry)
+          (come.journal.fits index entry there);
+      numbers = (come.journal.numbers (first_numbered pool)).numbered;
+      lines = λ one actors. follows_lines script (at_disk (resting pool) mid) item passed items taken
+          (ap (λ (turns : Turns). turns.items) come.ends) refl
+          (λ index entry there. ⊎_elim (λ at. absurd (no_call item index at)) (λ fit. fit.of_kind)
+          (come.journal.fits index entry there)) one actors;
+    };
     borne = come.borne;
-    few = come.few;
-    within = come.within;
-    missed = search arith;
-    listed = search arith;
+    bears = record {
+      few = come.bears.few;
+      within = come.bears.within;
+      missed = let all = come.bears.from_start few in search arith;
+      listed = let all = come.bears.from_start few in search arith;
+    };
     keeps = run_keeps;
   }
 

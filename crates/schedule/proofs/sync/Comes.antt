@@ -3,7 +3,7 @@ use Rattle.schedule.proofs.Words.{◌≡◌, ℕ, ◌+◌, ◌-◌, ◌≤◌, L
 use Rattle.schedule.proofs.Words.{arith, slice_get, slice_get_within, Reflow, IsTable, Uber, KeepsOrEnds, Answer, Kind}
 use Rattle.schedule.proofs.Words.{Map, CommitRun, ScriptCall, Script, calls_of, More, Busy, Done, Core, BeginsCommit}
 use Rattle.schedule.proofs.Words.{BeginsCommitSo, few_out, rests, commit_begins_calls, commit_begins_stands, turn_still}
-use Rattle.schedule.proofs.Words.{Client, Work, call_of_client, calls_under_way, held_under, Station, LeavesBegun}
+use Rattle.schedule.proofs.Words.{Client, Work, call_of_client, calls_under_way, held_under, TurnState, LeavesBegun}
 use Rattle.schedule.proofs.Words.{TakesTurn, IsGroupKind}
 use Rattle.core_state.specs.declared.answer.Kind.TheVariants as kind
 use Rattle.schedule.specs.declared.client.Work.TheVariants as work
@@ -22,7 +22,7 @@ use Rattle.schedule.proofs.sync.Syncs.{refused_answers, refused_tells, refused_m
 
 -- ---- a commit begins
 
-module _ {script : Script} {actor : ℕ} {before after : Station} {clients news : List Client} {asked : Kind}
+module _ {script : Script} {actor : ℕ} {before after : TurnState} {clients news : List Client} {asked : Kind}
     {does : CommitRun → Work} (makes : MakesGroups asked does) (call : ScriptCall)
     (takes : TakesTurn script actor before after clients news) (asked_is : (call.kind ≡ asked) × (call.id ≡ None))
     (no_call : call_of_client before.client ≡ []) (no_attach : IsNoAttach before.client.under_way)
@@ -71,7 +71,7 @@ module _ {script : Script} {actor : ℕ} {before after : Station} {clients news 
 
 -- ---- a sync
 
-module _ {script : Script} {actor : ℕ} {before after : Station} {clients news : List Client} {call : ScriptCall}
+module _ {script : Script} {actor : ℕ} {before after : TurnState} {clients news : List Client} {call : ScriptCall}
     (takes : TakesTurn script actor before after clients news) (asked : call.kind ≡ kind.Sync) (no_id : call.id ≡ None)
     (idle : before.client.under_way ≡ None) (next : slice_get (calls_of script actor) before.client.begun ≡ Some call)
     (disk : after.state.disk ≡ before.state.disk) where

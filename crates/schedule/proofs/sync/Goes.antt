@@ -7,7 +7,7 @@ use Rattle.schedule.proofs.Words.{StepsCommit, AnswersGroup, Stands, TurnGoesOn,
 use Rattle.schedule.proofs.Words.{commit_ends_calls, commit_ends_stands, commit_steps_calls, commit_steps_stands}
 use Rattle.schedule.proofs.Words.{commit_steps_since, Client, UnderWay, Work, Recorded, HasBegun, IsWorkOf, AreGoing}
 use Rattle.schedule.proofs.Words.{Runs, call_of_client, calls_under_way, commit_in, held_under, setting_now, begun_at}
-use Rattle.schedule.proofs.Words.{Station, LeavesGoing, group_for, TakesTurn, Past}
+use Rattle.schedule.proofs.Words.{TurnState, LeavesGoing, group_for, TakesTurn, Past}
 use Rattle.core_state.specs.declared.answer.Answer.TheVariants as answer
 use Rattle.core_state.specs.declared.answer.Kind.TheVariants as kind
 use Rattle.core_state.specs.declared.item.Group.{Group as GroupItem}
@@ -31,7 +31,7 @@ use Rattle.schedule.proofs.turn.Comes.{GoesFrom, ItComes, comes, comes_further, 
 use Rattle.schedule.proofs.turn.Comes.{its_answered, its_asked, its_commit, its_going, its_stands, last_entry, only}
 use Rattle.schedule.proofs.turn.Comes.{turns_left, turns_was, whole_recorded}
 
-module _ {script : Script} {actor : ℕ} {before after : Station} {clients news : List Client} {asked : Kind}
+module _ {script : Script} {actor : ℕ} {before after : TurnState} {clients news : List Client} {asked : Kind}
     {does : CommitRun → Work} (makes : MakesGroups asked does) {call : ScriptCall}
     (takes : TakesTurn script actor before after clients news) {under : UnderWay} {run : CommitRun}
     (does_is : under.work ≡ does run) (under_is : before.client.under_way ≡ Some under)

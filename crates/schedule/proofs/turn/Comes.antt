@@ -9,7 +9,7 @@ use Rattle.schedule.proofs.Words.{AreCallsOf, Stands, TurnGoesOn, shown_of, More
 use Rattle.schedule.proofs.Words.{Work, ClientsAreAnswered, GoesOnFor, IsWorldOf, turns_of, Turns, IsListedWith}
 use Rattle.schedule.proofs.Words.{AreGoing, HasContent, IsGoing, IsHoldOf, IsWorkFor, IsWorkOf, MakesCommit, Runs}
 use Rattle.schedule.proofs.Words.{call_of_client, calls_under_way, held_by, setting_now, HasDropCause, IsRightNext}
-use Rattle.schedule.proofs.Words.{Station, LeavesBegun, LeavesGoing, entry_for, made_in, TakesTurn, Comes, Past}
+use Rattle.schedule.proofs.Words.{TurnState, LeavesBegun, LeavesGoing, entry_for, made_in, TakesTurn, Comes, Past}
 use Rattle.core_state.specs.declared.answer.Answer.TheVariants as answer
 use Rattle.core_state.specs.declared.item.Item.TheVariants.{Call as CallItem}
 use Rattle.schedule.specs.declared.client.Work.TheVariants as work
@@ -31,7 +31,7 @@ use Rattle.schedule.proofs.sync.Syncs.{begun_parity, its_commit as commit_of}
 use Rattle.schedule.proofs.turn.LeavesPool.{KeepsCommit, LeavesPool, leaves_commit}
 
 -- What stood between two turns stands after this one with these items.
-abbrev pub RunsOn : Script → Station → Station → List Client → List Client → List Item → Type 0
+abbrev pub RunsOn : Script → TurnState → TurnState → List Client → List Client → List Item → Type 0
 RunsOn script before after clients news items = (world : World) (past : Past) → IsWorldOf script world
     → (count_of before.state.core.pool.out ≤ before.state.core.pool.uber.parity
     → IsWithin before.state.core.pool.out world.setting.failed)
@@ -40,7 +40,7 @@ RunsOn script before after clients news items = (world : World) (past : Past) �
     → Runs world script past after.state items news
 
 -- the entry of a call that is answered in its first turn
-abbrev pub first_entry : ScriptCall → ℕ → Station → Answer → Entry
+abbrev pub first_entry : ScriptCall → ℕ → TurnState → Answer → Entry
 first_entry call actor before given = entry_for call actor (before.client.begun + 1) (length before.items) given
 
 -- The work makes no commit, and is no attach.
@@ -53,7 +53,7 @@ IsPlainWork other = ⊤
 plain_no_commit : (does : Work) → IsPlainWork does → MakesCommit does → ⊥
 plain_no_commit does plain makes = grind (arith, false≢true)
 
-module _ {script : Script} {actor : ℕ} {before after : Station} {clients news : List Client}
+module _ {script : Script} {actor : ℕ} {before after : TurnState} {clients news : List Client}
     (takes : TakesTurn script actor before after clients news) where
   open before.state use {core as old}
   open after.state use {core as now}
@@ -245,7 +245,7 @@ module _ {script : Script} {actor : ℕ} {before after : Station} {clients news 
 -- ---- later turns
 
 -- A client takes a turn with this call under way, whose work is this.
-pub record GoesFrom (script : Script) (actor : ℕ) (before after : Station) (clients news : List Client)
+pub record GoesFrom (script : Script) (actor : ℕ) (before after : TurnState) (clients news : List Client)
     (call : ScriptCall) (under : UnderWay) (does : Work) : Type 0
   where
     pub takes : TakesTurn script actor before after clients news
@@ -253,7 +253,7 @@ pub record GoesFrom (script : Script) (actor : ℕ) (before after : Station) (cl
     pub under_is : before.client.under_way ≡ Some under
     pub is : slice_get (calls_of script actor) (before.client.begun - 1) ≡ Some call
 
-module _ {script : Script} {actor : ℕ} {before after : Station} {clients news : List Client} {call : ScriptCall}
+module _ {script : Script} {actor : ℕ} {before after : TurnState} {clients news : List Client} {call : ScriptCall}
     {under : UnderWay} {does : Work} (from : GoesFrom script actor before after clients news call under does) where
   open from use {takes, does_is, under_is, is}
 
@@ -410,7 +410,7 @@ module _ {script : Script} {actor : ℕ} {before after : Station} {clients news 
         whole_recorded = recorded_whole begun awaits (begun_parity its_stands) commit.stage its_recorded
 
 -- An attach goes on.
-module _ {script : Script} {actor : ℕ} {before after : Station} {clients news : List Client} {call : ScriptCall}
+module _ {script : Script} {actor : ℕ} {before after : TurnState} {clients news : List Client} {call : ScriptCall}
     {under : UnderWay} {run : AttachRun}
     (from : GoesFrom script actor before after clients news call under (work.Attach run)) where
   -- It is the one under way,

@@ -1,5 +1,5 @@
 -- What stood before a turn of one client stands after it, where its call is answered.
-use Rattle.schedule.proofs.Words.{◌≡◌, Station, TakesTurn, ◌≢◌, ℕ, List, [], ◌∷◌, ◌++◌, Some, None, sym, subst, length}
+use Rattle.schedule.proofs.Words.{◌≡◌, TurnState, TakesTurn, ◌≢◌, ℕ, List, [], ◌∷◌, ◌++◌, Some, None, sym, subst, length}
 use Rattle.schedule.proofs.Words.{◌+◌, ◌-◌, ◌<◌, arith, ◌≤◌, length-append, Option, slice_get, Entry, Item, Group, Map}
 use Rattle.schedule.proofs.Words.{map_of, map_after_answer, IsAnswerOf, IsAttachOf, Kept, Knows, World, CommitRun}
 use Rattle.schedule.proofs.Words.{ScriptCall, Script, calls_of, map_grown_call, map_grown_group, AttachRun, CoreState}
@@ -16,7 +16,7 @@ use Rattle.schedule.proofs.turn.Recording.{recorded_answers, recorded_ends, reco
 use Rattle.schedule.proofs.sync.Syncs.{stands_know}
 use Rattle.schedule.proofs.turn.GoesOn.{IsKnown, early_known, runs_with}
 
-module _ {world : World} {script : Script} {past : Past} {index : ℕ} {start left : Station} {clients news : List Client}
+module _ {world : World} {script : Script} {past : Past} {index : ℕ} {start left : TurnState} {clients news : List Client}
     {before : CoreState} {items : List Item} (takes : TakesTurn script index start left clients news)
     (runs : Runs world script past before items clients) where
   open start use {client as old}

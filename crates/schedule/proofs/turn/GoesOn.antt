@@ -1,5 +1,5 @@
 -- What stood before a turn of one client stands after it, where nothing is listed.
-use Rattle.schedule.proofs.Words.{◌≡◌, Station, TakesTurn, inr, Core, ◌≢◌, ℕ, ◌+◌, ◌-◌, List, [], ◌∷◌, length, Some}
+use Rattle.schedule.proofs.Words.{◌≡◌, TurnState, TakesTurn, inr, Core, ◌≢◌, ℕ, ◌+◌, ◌-◌, List, [], ◌∷◌, length, Some}
 use Rattle.schedule.proofs.Words.{None, refl, sym, ◌∙◌, ap, subst, arith, slice_get, slice_get_within, Disk, Later}
 use Rattle.schedule.proofs.Words.{TouchesOnly, Item, Map, map_of, Option, ⊎_elim, ◌⊎◌, inl, Kept, Setting, World, Lays}
 use Rattle.schedule.proofs.Words.{CommitRun, IsOnInUse, ScriptCall, Script, calls_of, AttachRun, HoldsAttach}
@@ -60,7 +60,7 @@ abbrev pub IsAlone : List Client → ℕ → Type 0
 IsAlone clients index = (other : ℕ) (its : Client) (under : UnderWay) (run : AttachRun) → other ≢ index
     → IsGoing clients other its under → under.work ≡ work.Attach run → ⊥
 
-module _ {world : World} {script : Script} {past : Past} {index : ℕ} {start left : Station} {clients news : List Client}
+module _ {world : World} {script : Script} {past : Past} {index : ℕ} {start left : TurnState} {clients news : List Client}
     {before : CoreState} {items : List Item} (takes : TakesTurn script index start left clients news)
     (runs : Runs world script past before items clients) where
   open start use {client as old}

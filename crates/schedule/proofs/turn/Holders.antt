@@ -1,6 +1,6 @@
 -- Whose holds the sectors of a core are, turn by turn: who copies some, and who shares some, is a client.
 use Rattle.schedule.proofs.Words.{AreCopiers, AreGoing, AreIdle, AreSharers, Changes, Client, Copies, CopyRun, Core}
-use Rattle.schedule.proofs.Words.{IsGoing, List, None, Option, Script, Some, Station, TakesTurn, UnderWay, Work, [], ap}
+use Rattle.schedule.proofs.Words.{IsGoing, List, None, Option, Script, Some, TurnState, TakesTurn, UnderWay, Work, [], ap}
 use Rattle.schedule.proofs.Words.{arith, calls_of, refl, shared_count, sharing_of, sharing_under, slice_get, suc, zero}
 use Rattle.schedule.proofs.Words.{ℕ, ◌+◌, ◌∷◌, ◌≡◌}
 use Rattle.schedule.specs.declared.client.Work.TheVariants as work
@@ -20,7 +20,7 @@ job_there : (its : Option UnderWay) (run : CopyRun) → job_under its ≡ Some r
 job_there its run is = grind (arith, job_work)
 
 -- Whoever copies after a turn is a client whose work is a job.
-pub copiers_after : {script : Script} {actor : ℕ} {before after : Station} {clients news : List Client}
+pub copiers_after : {script : Script} {actor : ℕ} {before after : TurnState} {clients news : List Client}
     → TakesTurn script actor before after clients news → TurnLeaves (calls_of script actor) actor before after
     → AreGoing script after.state.core news → AreCopiers clients before.state.core → AreCopiers news after.state.core
 copiers_after {script} {actor} {before} {after} {clients} {news} takes leaves going copiers who copies =
@@ -74,7 +74,7 @@ sharing_changes (first ∷ old) (second ∷ new) (suc actor) there changes =
     grind (arith, rest, its)
 
 -- So after a turn no more holds are shared than clients' calls under way have.
-pub sharers_after : {script : Script} {actor : ℕ} {before after : Station} {clients news : List Client}
+pub sharers_after : {script : Script} {actor : ℕ} {before after : TurnState} {clients news : List Client}
     → TakesTurn script actor before after clients news → TurnLeaves (calls_of script actor) actor before after
     → AreSharers clients before.state.core → AreSharers news after.state.core
 sharers_after takes leaves sharers = grind (arith, sharing_changes)

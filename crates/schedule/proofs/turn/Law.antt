@@ -3,7 +3,7 @@ use Rattle.schedule.proofs.Words.{◌≡◌, ⊎_elim, ℕ, ◌-◌, List, Optio
 use Rattle.schedule.proofs.Words.{cases_lt, get_or_past, AreBytes, Answer, Kind, ScriptCall, Script, MayHave, IsAllowed}
 use Rattle.schedule.proofs.Words.{calls_of, Turn, More, Busy, Done, Reads, Checked, Joins, Signs, Rests, Copies}
 use Rattle.schedule.proofs.Words.{Commits, GetRun, IsCore, IsReadKind, BeginsGet, Client, UnderWay, Work, TakesTurn}
-use Rattle.schedule.proofs.Words.{Comes, Station, BeginsWork, Waits, AnswersAtOnce, BeginsCall, GoesOnBy, LeavesBegun}
+use Rattle.schedule.proofs.Words.{Comes, TurnState, BeginsWork, Waits, AnswersAtOnce, BeginsCall, GoesOnBy, LeavesBegun}
 use Rattle.schedule.proofs.Words.{LeavesGoing, HasTableOf, Turned, WorkGoesOn, Nothing, Began, Went}
 use Rattle.core_state.specs.declared.answer.Kind.TheVariants as kind
 use Rattle.schedule.specs.declared.client.Work.TheVariants as work
@@ -30,7 +30,7 @@ use Rattle.schedule.proofs.sync.Goes.{commit_goes_further, sync_ends}
 put_bytes : (id : Option ℕ) {bytes : List ℕ} → MayHave kind.Put id bytes → AreBytes bytes
 put_bytes id may at = search (get_or_past, cases_lt, arith)
 
-module _ {script : Script} {actor : ℕ} {before after : Station} {clients news : List Client}
+module _ {script : Script} {actor : ℕ} {before after : TurnState} {clients news : List Client}
     (takes : TakesTurn script actor before after clients news) where
   abbrev ItComes : Type 0
   ItComes = Comes script actor before after clients news

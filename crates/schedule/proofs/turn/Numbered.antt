@@ -1,6 +1,6 @@
 -- The groups of a journal stay numbered, turn by turn.
 use Rattle.schedule.proofs.Words.{Core, Entry, Group, GroupAt, GroupsAreNumbered, IsGroupBefore, IsNumbered, Item, List}
-use Rattle.schedule.proofs.Words.{None, Option, Pool, ScriptCall, Some, Station, [], ap, arith, first_item}
+use Rattle.schedule.proofs.Words.{None, Option, Pool, ScriptCall, Some, TurnState, [], ap, arith, first_item}
 use Rattle.schedule.proofs.Words.{group_before_first, group_for, inl, inr, latest_alone, latest_grown_call}
 use Rattle.schedule.proofs.Words.{latest_grown_group, length, listed_on, new_or_before, refl, sym, ℕ, ◌++◌, ◌+◌, ◌<◌}
 use Rattle.schedule.proofs.Words.{◌∙◌, ◌∷◌, ◌≡◌}
@@ -73,6 +73,6 @@ numbered_answer : {items : List Item} {core : Core} (entry : Entry) → IsNumber
     → IsNumbered (items ++ CallItem entry ∷ []) core
 numbered_answer entry stood = search (latest_grown_call, numbered_call)
 
-pub turn_numbers : {calls : List ScriptCall} {actor : ℕ} {before after : Station} → TurnLeaves calls actor before after
+pub turn_numbers : {calls : List ScriptCall} {actor : ℕ} {before after : TurnState} → TurnLeaves calls actor before after
     → IsNumbered before.items before.state.core → IsNumbered after.items after.state.core
 turn_numbers leaves stood = grind (arith, numbered_on, numbered_answer)

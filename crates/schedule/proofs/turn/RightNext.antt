@@ -26,7 +26,7 @@ IsPlain (answer.Taken slot) = ⊥
 IsPlain (answer.Paused device) = ⊥
 IsPlain other = ⊤
 
--- The call was cut short: too many devices are out, or memory is wanting.
+-- The call was cut short: too many devices are out, or memory is exhausted.
 abbrev pub IsStopped : Answer → Type 0
 IsStopped (answer.TooManyFailed out) = ⊤
 IsStopped answer.NoMemory = ⊤

@@ -3,7 +3,7 @@ use Rattle.schedule.proofs.Words.{◌≡◌, inl, inr, ⊎_elim, ℕ, ◌+◌, �
 use Rattle.schedule.proofs.Words.{sym, ◌∙◌, arith, Contains, sum_by-cons, Hold, HoldKind, Shared, Exclusive, IsBusyBy}
 use Rattle.schedule.proofs.Words.{exclusive_count, count_none, Kind, ScriptCall, contains_cases, contains_none, Core}
 use Rattle.schedule.proofs.Words.{IsCore, HasTooManyOut, IsRoundBusy, below_all, none_below, one_if, shared_count}
-use Rattle.schedule.proofs.Words.{Station, Turned, Waits}
+use Rattle.schedule.proofs.Words.{TurnState, Turned, Waits}
 use Rattle.uberblock_ring.specs.Devices.{count_of}
 use Rattle.core_state.specs.declared.answer.Kind.TheVariants as kind
 use Rattle.schedule.proofs.turn.Theirs.{none_some}
@@ -86,7 +86,7 @@ none_waits old new devices actor call kind.Copy None by quiet waits = search no_
 none_waits old new devices actor call asked id by quiet waits = absurd waits
 
 -- Where no call is under way, a client's next call begins.
-pub turned_begins : {calls : List ScriptCall} {actor : ℕ} {before after : Station}
+pub turned_begins : {calls : List ScriptCall} {actor : ℕ} {before after : TurnState}
     → Turned calls actor before after → IsQuiet before.state.core → before.client.under_way ≡ None
     → before.client.begun < length calls → after.client.begun ≡ before.client.begun + 1
 turned_begins turned quiet idle low = grind (arith, none_waits)

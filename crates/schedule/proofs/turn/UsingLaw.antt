@@ -1,7 +1,7 @@
 -- A put finds no space only where the blocks and the puts of the script are many, turn by turn.
 use Rattle.schedule.proofs.Words.{AreUsed, Bool, Changes, Client, Core, Entry, FindsNoSpace, HasToldWidths, HasUsedRuns}
 use Rattle.schedule.proofs.Words.{IndexEntry, IsBornBehind, IsCore, IsOpenSince, Item, List, NoSpaceIsCaused, None}
-use Rattle.schedule.proofs.Words.{Option, Reflow, Script, ScriptCall, Some, Station, Uber, [], arith, births_kept}
+use Rattle.schedule.proofs.Words.{Option, Reflow, Script, ScriptCall, Some, TurnState, Uber, [], arith, births_kept}
 use Rattle.schedule.proofs.Words.{births_told_call, births_told_group, calls_of, false, fill_bytes, handed_by}
 use Rattle.schedule.proofs.Words.{has_ended, has_ended_call, has_ended_group, if◌then◌else◌, inl, inr, length}
 use Rattle.schedule.proofs.Words.{length_put, listed_on, mul-le-mul_left, nat_tests, no_space_call, no_space_group}
@@ -50,7 +50,7 @@ caused_on widths at made caused = grind (arith, no_space_group)
 
 -- ---- a turn
 
-module _ {script : Script} {actor : ℕ} {before after : Station} {clients news : List Client}
+module _ {script : Script} {actor : ℕ} {before after : TurnState} {clients news : List Client}
     (was : slice_get clients actor ≡ Some before.client) (changes : Changes clients news actor after.client)
     (is : IsCore before.state.core) (leaves : TurnLeaves (calls_of script actor) actor before after)
     {uber : Uber} {entries : List IndexEntry}

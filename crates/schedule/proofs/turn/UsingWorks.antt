@@ -2,7 +2,7 @@
 -- group and of who holds sectors; and what it lists.
 use Rattle.schedule.proofs.Words.{Answer, AnswersAtOnce, Began, Busy, CopyRun, Core, CoreState, Done, Entry, GoesOnBy}
 use Rattle.schedule.proofs.Words.{Group, HasNoFreeRun, IsCore, IsOpenSince, Item, Kind, List, MayGoOn, More, None}
-use Rattle.schedule.proofs.Words.{Nothing, Option, Run, ScriptCall, Some, Station, Turned, Uber, UnderWay, Went, Work}
+use Rattle.schedule.proofs.Words.{Nothing, Option, Run, ScriptCall, Some, TurnState, Turned, Uber, UnderWay, Went, Work}
 use Rattle.schedule.proofs.Words.{[], arith, begun_at, commit_in, entry_for, fill_bytes, group_by, group_for, inl}
 use Rattle.schedule.proofs.Words.{length, length_put, listed_for, listed_on, made_by, made_in, sectors_taken}
 use Rattle.schedule.proofs.Words.{sharing_in, sharing_under, slice_get, ℕ, ◌++◌, ◌+◌, ◌-◌, ◌∷◌, ◌≡◌, ◌⊎◌}
@@ -77,7 +77,7 @@ job_under None = None
 job_under (Some under) = job_in under.work
 
 -- The client's next call, a put, finds no space for its bytes, and is answered so.
-pub record FindsNone (calls : List ScriptCall) (actor : ℕ) (before : Station) (entry : Entry) (size : ℕ) : Type 0 where
+pub record FindsNone (calls : List ScriptCall) (actor : ℕ) (before : TurnState) (entry : Entry) (size : ℕ) : Type 0 where
   pub call : ScriptCall
   pub next : slice_get calls before.client.begun ≡ Some call
   pub entry_is : entry ≡ entry_for call actor (before.client.begun + 1) (length before.items) entry.answer
@@ -86,7 +86,7 @@ pub record FindsNone (calls : List ScriptCall) (actor : ℕ) (before : Station) 
   pub none : HasNoFreeRun before.state.core.pool.blocks.space before.state.core.holds size
 
 -- The client began no call, and no run was taken; or its next one, of which these runs are.
-abbrev pub BeginsAtMost : List ScriptCall → Station → Station → List Run → Type 0
+abbrev pub BeginsAtMost : List ScriptCall → TurnState → TurnState → List Run → Type 0
 BeginsAtMost calls before after more = ((after.client.begun ≡ before.client.begun) × (more ≡ []))
     ⊎ ((after.client.begun ≡ before.client.begun + 1) × (before.client.under_way ≡ None) × (call : ScriptCall)
     × (slice_get calls before.client.begun ≡ Some call) × ((uber : Uber) → IsOpenSince uber before.state.core
@@ -94,14 +94,14 @@ BeginsAtMost calls before after more = ((after.client.begun ≡ before.client.be
 
 -- Behind some items an answer is listed, or none. It tells of no space only where these are the items from before the
 -- turn, and the next call finds none.
-abbrev pub AnswersBehind : List ScriptCall → ℕ → Station → List Item → List Item → Type 0
+abbrev pub AnswersBehind : List ScriptCall → ℕ → TurnState → List Item → List Item → Type 0
 AnswersBehind calls actor before items now = (now ≡ items)
     ⊎ ((entry : Entry) × (now ≡ items ++ CallItem entry ∷ []) × ((size : ℕ) → entry.answer ≡ answer.NoSpace size
     → (items ≡ before.items) × FindsNone calls actor before entry size))
 
 -- What a turn of a client leaves: it may take runs, for a call that begins, and lists a group, if it answers one, and
 -- then an answer, if it gives one.
-pub record TurnLeaves (calls : List ScriptCall) (actor : ℕ) (before after : Station) : Type 0 where
+pub record TurnLeaves (calls : List ScriptCall) (actor : ℕ) (before after : TurnState) : Type 0 where
   pub more : List Run
   pub made : Option ℕ
   pub at : ℕ
@@ -119,7 +119,7 @@ first_none : (old new : Core) (devices actor : ℕ) (call : ScriptCall) (asked :
     × HasNoFreeRun old.pool.blocks.space old.holds size
 first_none old new devices actor call asked id answers = grind (arith, call, round_plain)
 
-module _ {calls : List ScriptCall} {actor : ℕ} {before after : Station} (is : IsCore before.state.core)
+module _ {calls : List ScriptCall} {actor : ℕ} {before after : TurnState} (is : IsCore before.state.core)
     (may : (under : UnderWay) (call : ScriptCall) → before.client.under_way ≡ Some under
     → slice_get calls (before.client.begun - 1) ≡ Some call → MayGoOn before.state.core call under.work) where
   -- So it is where no call begins, goes on or ends,

@@ -1,9 +1,9 @@
 use Rattle.std.proofs.Common.{◌≡◌, false}
 use Rattle.client_script.specs.Script.{calls_of}
-use Rattle.schedule.specs.Ahead.{IsReadyFor}
+use Rattle.schedule.specs.Computing.{IsComputedFor}
 use Rattle.pool_live.proofs.beside.run_client.Given as goal
 
 -- the seat is one of the lock, and free; and what was computed is of the client's calls
 abbrev pub invariant-loop : goal.invariant-loop
 invariant-loop g l = (l.seat.lock ≡ l.fn.turns.id) × (l.seat.holds ≡ false)
-    × IsReadyFor (calls_of l.fn.script l.fn.actor) l.computed
+    × IsComputedFor (calls_of l.fn.script l.fn.actor) l.computed

@@ -56,7 +56,7 @@ returns-clause-run g c =
       carried = with.carried;
       run = has.run;
       carried_is = subst (λ (group : GroupItem). IsScriptWith script attaches group with.carried)
-          (one_first items (first_item pool) has.run.opened (alone.come.listed 0 (Group (first_item pool)) refl) has.run.there)
+          (one_first items (first_item pool) has.run.opened (alone.come.journal.listed 0 (Group (first_item pool)) refl) has.run.opens.there)
           with.carried_is;
       counted = turns_counted ran has.turns;
       complete = with.complete;
@@ -68,7 +68,7 @@ returns-clause-run g c =
     let has = has_run taken.passed opened.later
     opened.only opened.silent opened.few opened.missed opened.renews opened.writes opened.out opened.begins opened.rest
     opened.bank opened.right opened.loaded taken.taken taken.come with.calls in
-    let same = one_first items has.opened (first_item pool) has.there (taken.come.listed 0 (Group (first_item pool)) refl) in
+    let same = one_first items has.opened (first_item pool) has.opens.there (taken.come.journal.listed 0 (Group (first_item pool)) refl) in
     record {
       carried = with.carried;
       run = has;

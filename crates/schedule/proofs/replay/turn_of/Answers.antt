@@ -1,5 +1,5 @@
-use Rattle.schedule.proofs.Words.{◌≡◌, ◌<◌, ◌-◌, Some, length, refl, arith, slice_set, length-set, slice_get, calls_of}
-use Rattle.schedule.proofs.Words.{TakesTurn, Turned, station_of}
+use Rattle.schedule.proofs.Words.{◌≡◌, ◌<◌, Some, length, refl, arith, slice_set, length-set, slice_get, calls_of}
+use Rattle.schedule.proofs.Words.{TakesTurn, Turned, turn_state}
 use Rattle.schedule.proofs.order.TurnTaken.{allowed_of, client_there, going_may, turn_few, turn_none, takes_turn}
 use Rattle.schedule.proofs.order.TurnTaken.{turn_ready, turn_taken}
 use Rattle.schedule.proofs.run.Rooms.{room_after, room_left, taken_few}
@@ -15,7 +15,7 @@ take_turn-requires g c =
     let schedule = c.requires.ready.schedule in
     rw c.calls.ensures (record {
       allowed = λ number call is. allowed_of c.args.script.now c.args.actor c.requires.allowed number call is;
-      ready = c.requires.computed;
+      computed = c.requires.computed;
       room = room_left c.args.actor c.requires.ready.enough there;
       bank = schedule.bank;
       few = schedule.answered.few c.args.actor client there;
@@ -28,9 +28,9 @@ pub returns-then-place-len : goal.returns-then-place-len
 returns-then-place-len g c =
     let clients = c.args.live.now.progress.clients.items in
     let client = c.index_mut-client.result.now in
-    let before = station_of c.args.live.now.core (g.B.Bank.disk c.args.live.now.bank) c.args.live.now.journal.items
+    let before = turn_state c.args.live.now.core (g.B.Bank.disk c.args.live.now.bank) c.args.live.now.journal.items
     c.index_mut-client.result.now in
-    let after = station_of c.take_turn.new.core (g.B.Bank.disk c.take_turn.new.bank) c.take_turn.new.journal.items
+    let after = turn_state c.take_turn.new.core (g.B.Bank.disk c.take_turn.new.bank) c.take_turn.new.journal.items
     c.take_turn.new.client in
     let low : c.from-place.result < length clients =
     omega (arith, c.if-place-len.true, c.len.ensures, c.args.live.now.progress.clients.ok) in

@@ -2,8 +2,8 @@ use Rattle.core_turns.proofs.sync.Goes.{commit_goes, turn_bank}
 use Rattle.core_turns.proofs.open_core.Core.commit_step.Goals as goal
 
 pub returns-clause-goes_on : goal.returns-clause-goes_on
-returns-clause-goes_on g c = commit_goes _ _ c.args.run c.step_commit.result
-    c.step_commit.ensures.is (g.met.B.Bank.lawful c.args.bank.now) c.requires.of c.step_commit.ensures.steps
+returns-clause-goes_on g c = commit_goes _ _ c.args.run c.make_commit_call.result
+    c.make_commit_call.ensures.is (g.met.B.Bank.lawful c.args.bank.now) c.requires.of c.make_commit_call.ensures.steps
 
 pub returns-clause-out : goal.returns-clause-out
 returns-clause-out g c = (returns-clause-goes_on g c).out

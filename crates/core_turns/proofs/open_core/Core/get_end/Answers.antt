@@ -4,4 +4,4 @@ use Rattle.core_turns.proofs.open_core.Core.get_end.Goals as goal
 
 pub returns-clause-tells : goal.returns-clause-tells
 returns-clause-tells c = λ content disk holds. get_tells content _ _ disk c.args.run.now
-    (Done c.end_get.result) c.requires.kind holds c.end_get.ensures
+    (Done c.release_and_tell.result) c.requires.kind holds c.release_and_tell.ensures
