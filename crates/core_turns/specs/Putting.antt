@@ -45,7 +45,7 @@ hold_on range actor = record {
   kind = Shared;
 }
 
--- A put holds its sectors from now on, or memory was wanting for that.
+-- A put holds its sectors from now on, or memory was exhausted for that.
 abbrev pub HoldsRange : List Hold → List Hold → PutRange → ℕ → Option Hold → Type 0
 HoldsRange old new range actor (Some hold) = (hold ≡ hold_on range actor) × Gains old new hold
 HoldsRange old new range actor None = new ≡ old
@@ -258,7 +258,7 @@ EndsPut old run new (Done answer.Stored) = StoresBlock old new run
 EndsPut old run new (Done (answer.TooManyFailed out)) = IsStoppedPut old new run (answer.TooManyFailed out)
 EndsPut old run new other = ⊥
 
--- what a turn that gives up comes to: memory was wanting to fill the block in
+-- what a turn that gives up comes to: memory was exhausted to fill the block in
 abbrev pub GivesUpTurn : Core → PutRun → Core → Turn PutRun → Type 0
 GivesUpTurn old run new (Done answer.NoMemory) = (HasTooManyOut old → ⊥) × GivesUp old new run
 GivesUpTurn old run new (Done (answer.TooManyFailed out)) = IsStoppedPut old new run (answer.TooManyFailed out)

@@ -70,7 +70,7 @@ impl GetRun {
         self.read.is_done()
     }
 
-    /// What is to be solved, once all columns were read: the columns are shared. Nothing where memory is wanting for that.
+    /// What is to be solved, once all columns were read: the columns are shared. Nothing where memory is exhausted for that.
     pub fn to_solve(&mut self, alloc: Global) -> Option<ToSolve>
         requires len { sectors_for self.old.entry.len ≡ self.old.read.layout.sectors }
         ensures same { self.new ≡ self.old }
@@ -174,7 +174,7 @@ impl Core {
         self.read_next_column(bank, run)
     }
 
-    /// The last turn of a read: tells its block, once it was solved, or that memory was wanting for that. What was solved
+    /// The last turn of a read: tells its block, once it was solved, or that memory was exhausted for that. What was solved
     /// is taken from it.
     pub fn get_end(&mut self, run: &mut GetRun) -> Answer
         requires kind { IsReadKind run.old.kind }

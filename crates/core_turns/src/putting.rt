@@ -53,7 +53,7 @@ fn refusal(refused: PutRefused) -> Turn<PutRun>
     }
 }
 
-/// Holds the sectors that a put has taken, unless memory is wanting.
+/// Holds the sectors that a put has taken, unless memory is exhausted.
 fn hold_range(locks: &mut Locks, range: &PutRange, actor: u8) -> Option<Hold>
     requires some { 0 < allocated_of range.now.layout }
     requires end { range.now.layout.start + allocated_of range.now.layout < 2 ^ 64 }
@@ -233,7 +233,7 @@ impl Core {
         Answer::Stored
     }
 
-    /// The last turn of a put for whose block memory was wanting.
+    /// The last turn of a put for whose block memory was exhausted.
     pub fn put_give_up(&mut self, run: &PutRun) -> Answer
         requires of { IsPutOf self.old run.now }
         requires under_way { IsUnderWay self.old.pool.blocks run.now.range }

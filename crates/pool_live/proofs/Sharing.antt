@@ -18,7 +18,7 @@ use Rattle.schedule.specs.Replaying.{HasTurn}
 use Rattle.schedule.specs.Turns.{Turns, TurnTaken, last_left, taken_by, turns_of}
 use Rattle.schedule.proofs.run.Coming.{came_nowhere, came_on}
 use Rattle.schedule.proofs.order.InTurn.{gone_counted, gone_taken, taken_more}
-use Rattle.pool_live.specs.declared.live.Had.{Had}
+use Rattle.pool_live.specs.declared.live.TurnsTaken.{TurnsTaken}
 use Rattle.pool_live.specs.Sharing.{HasCarriedOut, MovesOn, StandsFor, actors_told}
 
 -- No client has had a turn yet.
@@ -102,7 +102,7 @@ moves_still script before core disk journal progress next actor had room taken s
     (turns_of (at_disk core disk) journal.items clients) journal.room progress.turns) (sym same) moves)
 
 -- What was told has one entry more.
-pub actors_more : (told : List Had) (had : Had) → actors_told (told ++ had ∷ []) ≡ actors_told told ++ replicate had.turns had.actor
+pub actors_more : (told : List TurnsTaken) (had : TurnsTaken) → actors_told (told ++ had ∷ []) ≡ actors_told told ++ replicate had.turns had.actor
 actors_more [] had = append-nil (replicate had.turns had.actor)
 actors_more (first ∷ told) had =
     ap (λ (l : List ℕ). replicate first.turns first.actor ++ l) (actors_more told had)

@@ -74,7 +74,7 @@ widening_not_alone script attaches opened widens alone = ⊎_elim
 
 -- ---- how a script was carried out
 
--- Where memory was wanting nothing was done.
+-- Where there was no memory nothing was done.
 pub left_undone : (script : Script) (attaches : Bool) (state : CoreState) (items : List Item)
     → (attaches ≡ true) ⊎ TellsExpansion (first_item state.core.pool) → IsAtRest state.core → HasBankOf state.core state.disk
     → AnswersNone items → IsCarriedWith script attaches state items NoMemory 0 state items

@@ -10,7 +10,7 @@ use Rattle.core_turns.specs.Core.{Core, CoreState}
 use Rattle.turn_lock.specs.Seats.{Lock, Sitting}
 use Rattle.pool_live.specs.declared.batch.Next.{Next}
 use Rattle.pool_live.specs.declared.batch.Next.TheVariants.{GoesOn}
-use Rattle.pool_live.specs.declared.live.Had.{Had}
+use Rattle.pool_live.specs.declared.live.TurnsTaken.{TurnsTaken}
 use Rattle.schedule.specs.declared.client.Client.{Client}
 use Rattle.schedule.specs.Computing.{IsComputable}
 use Rattle.schedule.specs.Coming.{LeadTo}
@@ -28,9 +28,9 @@ IsNextFor calls (GoesOn ahead) = IsComputable calls ahead
 IsNextFor calls other = ⊤
 
 -- the clients that had the turns that were told
-abbrev pub actors_told : List Had → List ℕ
+abbrev pub actors_told : List TurnsTaken → List ℕ
 actors_told [] = []
-actors_told (had ∷ told) = replicate had.turns had.actor ++ actors_told told
+actors_told (taken ∷ told) = replicate taken.turns taken.actor ++ actors_told told
 
 -- These clients have had the turns since the start, one after the other, and so many were counted.
 abbrev pub StandsFor : Script → Option Turns → List ℕ → Turns → ℕ → ℕ → Type 0

@@ -43,8 +43,8 @@ IsTakenSo script attaches opened carried state items ended turns after listed =
     CarriesOut carried [] (turns_from carried state items) ended turns after listed
     ⊎ ((IsAlone script attaches opened → ⊥) × HasCarriedOut carried (turns_from carried state items) 0 after listed turns)
 
--- From this state on a script was carried out so, with the client that widens the pool where it has one; and it ended so,
--- in so many turns.
+-- From this state on a script was carried out so, with the client that widens the pool where it has one; and it ended
+-- so, in so many turns.
 pub record IsCarriedWith (script : Script) (attaches : Bool) (state : CoreState) (items : List Item) (ended : Ended)
     (turns : ℕ) (after : CoreState) (listed : List Item) : Type 0 where
   pub carried : Script
@@ -56,13 +56,15 @@ pub record IsCarriedWith (script : Script) (attaches : Bool) (state : CoreState)
   pub memory : ended ≡ NoMemory → listed ≡ items
 
 -- A script was carried out on the pool that the devices showed, with the client that widens it where it has one, and as
--- many turns as are told were taken. Each call is answered, but where memory was wanting or no more turns can be counted.
-pub record HasRunBeside (script : Script) (attaches : Bool) (old new : Disk) (items : List Item) (ran : Ran) : Type 0 where
-  pub carried : Script
-  pub run : HasRun carried old new items ran.out
-  pub carried_is : IsScriptWith script attaches run.opened carried
-  pub counted : ran.turns ≡ length run.passed
-  pub complete : ran.ended ≡ Whole → IsComplete (asked_by carried) items
-  pub limit : ran.ended ≡ Limit → most_turns ≤ ran.turns
-  -- The turns of an only client are those of its calls in the order of their lines.
-  pub taken : IsAlone script attaches run.opened → HasTakenTurns carried [] run ran
+-- many turns as are told were taken. Each call is answered, but where there was no memory or no more turns can be
+-- counted.
+pub record HasRunBeside (script : Script) (attaches : Bool) (old new : Disk) (items : List Item) (ran : Ran) : Type 0
+  where
+    pub carried : Script
+    pub run : HasRun carried old new items ran.out
+    pub carried_is : IsScriptWith script attaches run.opened carried
+    pub counted : ran.turns ≡ length run.passed
+    pub complete : ran.ended ≡ Whole → IsComplete (asked_by carried) items
+    pub limit : ran.ended ≡ Limit → most_turns ≤ ran.turns
+    -- The turns of an only client are those of its calls in the order of their lines.
+    pub taken : IsAlone script attaches run.opened → HasTakenTurns carried [] run ran

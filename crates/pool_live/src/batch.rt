@@ -9,13 +9,12 @@ ghost use Rattle.schedule.specs.Playing.{IsReady};
 ghost use Rattle.schedule.specs.Turns.{turns_of};
 ghost use Rattle.pool_live.specs.Sharing.{IsFreeSeat, IsNextFor, MovesOn};
 
-use crate::live::{Had, Setup, Shared};
+use crate::live::{PoolSeat, Run, Setup, TurnsTaken};
 use bank_trait::Bank;
 use client_script::Script;
 use schedule::{Computed, Live, Progress, ToCompute, turn_of};
 use std::alloc::Global;
 use std::sync::Wait;
-use turn_lock::{Seat, Turns};
 
 /// Most turns that a client has at once, while others wait for theirs.
 const MOST_AT_ONCE: u64 = 32;
@@ -132,34 +131,37 @@ fn have_turns<B: Bank>(
 }
 
 /// Waits for the turn, and has it, with what was computed for it, and those behind it.
-pub fn take_turns_of<R: Wait, B: Bank, J: Setup>(
-    rt: &R,
-    alloc: Global,
-    turns: &Turns<Shared<B, J>, (), Had>,
-    seat: &mut Seat<Shared<B, J>, Had>,
-    script: &Script,
+pub fn take_turns_of<R: Wait, G, B: Bank, J: Setup>(
+    run: &Run<R, G, B, J>,
+    seat: &mut PoolSeat<B, J>,
     actor: u8,
     computed: Computed,
 ) -> Batch
-    requires script { script.now ≡ J.script }
-    requires allowed { All (λ placed. IsAllowed placed.call) script.now.calls }
-    requires seat { IsFreeSeat turns.now seat.old }
-    requires computed { IsComputedFor (calls_of script.now actor) computed }
-    ensures seat { IsFreeSeat turns.now seat.new }
-    ensures next { IsNextFor (calls_of script.now actor) result.next }
+    requires script { run.now.script.now ≡ J.script }
+    requires allowed { All (λ placed. IsAllowed placed.call) run.now.script.now.calls }
+    requires seat { IsFreeSeat run.now.turns.now seat.old }
+    requires computed { IsComputedFor (calls_of run.now.script.now actor) computed }
+    ensures seat { IsFreeSeat run.now.turns.now seat.new }
+    ensures next { IsNextFor (calls_of run.now.script.now actor) result.next }
 {
-    let Ok(mut held) = turns.take(rt, seat) else {
+    let Ok(mut held) = run.turns.take(run.host.rt, seat) else {
         return Batch {
             turns: 0,
             answered: 0,
             next: Next::Ended,
         };
     };
-    let batch = have_turns(alloc, &mut held.state.live, script, actor, computed);
-    let had = Had {
+    let batch = have_turns(
+        run.host.alloc,
+        &mut held.state.live,
+        run.script,
+        actor,
+        computed,
+    );
+    let taken = TurnsTaken {
         actor,
         turns: batch.turns,
     };
-    turns.give(seat, held, &had);
+    run.turns.give(seat, held, &taken);
     batch
 }

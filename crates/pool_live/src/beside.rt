@@ -16,7 +16,8 @@ ghost use Rattle.pool_live.specs.Sharing.{IsUntouched, MovesOn, StandsFor};
 
 use crate::batch::{Next, take_turns_of};
 use crate::gate::pass_behind;
-use crate::live::{Had, Setup, Shared};
+use crate::host::Host;
+use crate::live::{PoolSeat, Run, Setup, Shared};
 use bank_trait::{Bank, Gate};
 use client_script::Script;
 use core_state::Journal;
@@ -27,33 +28,29 @@ use std::alloc::Global;
 use std::marker::{Brand, PhantomData};
 use std::sync::Wait;
 use std::thread::{Threads, join, yield_now};
-use turn_lock::{NewRefused, Seat, Turns};
+use turn_lock::{NewRefused, Turns};
 
 /// The calls of one client, some turns at once, and the gate between them. What a turn asks to be computed is computed
 /// before it, while others have theirs. A client without calls takes no turn.
-fn run_client<R: Wait, B: Bank, J: Setup, G: Gate>(
-    rt: &R,
-    alloc: Global,
-    turns: &Turns<Shared<B, J>, (), Had>,
-    mut seat: Seat<Shared<B, J>, Had>,
-    script: &Script,
-    gate: &G,
+fn run_client<R: Wait, G: Gate, B: Bank, J: Setup>(
+    run: &Run<R, G, B, J>,
+    mut seat: PoolSeat<B, J>,
     actor: u8,
-) -> Seat<Shared<B, J>, Had>
-    requires script { script.now ≡ J.script }
-    requires allowed { All (λ placed. IsAllowed placed.call) script.now.calls }
-    requires seat { IsFreeSeat turns.now seat }
-    ensures seat { IsFreeSeat turns.now result }
+) -> PoolSeat<B, J>
+    requires script { run.now.script.now ≡ J.script }
+    requires allowed { All (λ placed. IsAllowed placed.call) run.now.script.now.calls }
+    requires seat { IsFreeSeat run.now.turns.now seat }
+    ensures seat { IsFreeSeat run.now.turns.now result }
 {
-    if script.calls(actor).is_empty() {
+    if run.script.calls(actor).is_empty() {
         return seat;
     }
     let mut computed = Computed::Nothing;
-    for _ in rt.forever() {
-        let batch = take_turns_of(rt, alloc, turns, &mut seat, script, actor, computed);
-        pass_behind(rt, gate, actor, &batch);
+    for _ in run.host.rt.forever() {
+        let batch = take_turns_of(run, &mut seat, actor, computed);
+        pass_behind(run.host.rt, run.host.gate, actor, &batch);
         computed = match batch.next {
-            Next::GoesOn(ahead) => ahead.compute(alloc, script.calls(actor)),
+            Next::GoesOn(ahead) => ahead.compute(run.host.alloc, run.script.calls(actor)),
             Next::Waits => {
                 yield_now();
                 Computed::Nothing
@@ -65,41 +62,39 @@ fn run_client<R: Wait, B: Bank, J: Setup, G: Gate>(
 }
 
 /// The calls of some clients, each of them in a thread.
-fn run_clients<R: Threads + Wait + Sync, B: Bank + Send, J: Setup + Send + Sync, G: Gate + Sync>(
-    rt: &R,
-    alloc: Global,
-    turns: &Turns<Shared<B, J>, (), Had>,
-    mut seat: Seat<Shared<B, J>, Had>,
-    script: &Script,
-    gate: &G,
+fn run_clients<R: Threads + Wait + Sync, G: Gate + Sync, B: Bank + Send, J: Setup + Send + Sync>(
+    run: &Run<R, G, B, J>,
+    mut seat: PoolSeat<B, J>,
     first: u8,
     end: u8,
-) -> Seat<Shared<B, J>, Had>
-    requires script { script.now ≡ J.script }
-    requires allowed { All (λ placed. IsAllowed placed.call) script.now.calls }
-    requires seat { IsFreeSeat turns.now seat }
+) -> PoolSeat<B, J>
+    requires script { run.now.script.now ≡ J.script }
+    requires allowed { All (λ placed. IsAllowed placed.call) run.now.script.now.calls }
+    requires seat { IsFreeSeat run.now.turns.now seat }
     requires range { first < end }
-    ensures seat { IsFreeSeat turns.now result }
+    ensures seat { IsFreeSeat run.now.turns.now result }
 {
     if end - first == 1 {
-        return run_client(rt, alloc, turns, seat, script, gate, first);
+        return run_client(run, seat, first);
     }
     let middle = first + (end - first) / 2;
-    let other = turns.split(&mut seat);
+    let other = run.turns.split(&mut seat);
     let (mut seat, other) = join(
-        rt,
-        move || -> Seat<Shared<B, J>, Had>
-            requires { IsSync R.row × IsSync G.row × (script.now ≡ J.script) × (first < middle)
-                × IsFreeSeat turns.now seat × All (λ placed. IsAllowed placed.call) script.now.calls }
-            ensures { IsFreeSeat turns.entry.now result }
-        { run_clients(rt, alloc, turns, seat, script, gate, first, middle) },
-        move || -> Seat<Shared<B, J>, Had>
-            requires { IsSync R.row × IsSync G.row × (script.now ≡ J.script) × (middle < end)
-                × IsFreeSeat turns.now other × All (λ placed. IsAllowed placed.call) script.now.calls }
-            ensures { IsFreeSeat turns.entry.now result }
-        { run_clients(rt, alloc, turns, other, script, gate, middle, end) },
+        run.host.rt,
+        move || -> PoolSeat<B, J>
+            requires { IsSync R.row × IsSync G.row × (run.now.script.now ≡ J.script)
+                × (first < middle) × IsFreeSeat run.now.turns.now seat
+                × All (λ placed. IsAllowed placed.call) run.now.script.now.calls }
+            ensures { IsFreeSeat run.entry.now.turns.now result }
+        { run_clients(run, seat, first, middle) },
+        move || -> PoolSeat<B, J>
+            requires { IsSync R.row × IsSync G.row × (run.now.script.now ≡ J.script)
+                × (middle < end) × IsFreeSeat run.now.turns.now other
+                × All (λ placed. IsAllowed placed.call) run.now.script.now.calls }
+            ensures { IsFreeSeat run.entry.now.turns.now result }
+        { run_clients(run, other, middle, end) },
     );
-    turns.join(&mut seat, other);
+    run.turns.join(&mut seat, other);
     seat
 }
 
@@ -127,9 +122,9 @@ fn finish<B: Bank>(alloc: Global, mut live: Live<B>, script: &Script) -> Finishe
 fn take_turns_beside<
     J: Setup + Send + Sync,
     R: Threads + Wait + Sync,
-    B: Bank + Send,
     G: Gate + Sync,
->(rt: &R, alloc: Global, live: Live<B>, script: &Script, gate: &G) -> Live<B>
+    B: Bank + Send,
+>(host: &Host<R, G>, live: Live<B>, script: &Script) -> Live<B>
     requires script { script.now ≡ J.script }
     requires allowed { All (λ placed. IsAllowed placed.call) script.now.calls }
     requires stands { StandsFor J.script J.start []
@@ -138,14 +133,14 @@ fn take_turns_beside<
         (turns_in B.disk result) result.journal.room
         result.progress.turns }
 {
-    let shared: Shared<B, J> = match Box::new(alloc, live) {
+    let shared: Shared<B, J> = match Box::new(host.alloc, live) {
         Ok(live) => Shared {
             live,
             of: PhantomData,
         },
         Err(refused) => return refused.value,
     };
-    let (turns, seat) = match Turns::new(alloc, shared, &()) {
+    let (turns, seat) = match Turns::new(host.alloc, shared, &()) {
         Ok(made) => made,
         Err(
             NewRefused {
@@ -158,19 +153,22 @@ fn take_turns_beside<
     let last = if clients == 0 {
         seat
     } else {
-        run_clients(rt, alloc, &turns, seat, script, gate, 0, clients)
+        let run = Run {
+            host,
+            script,
+            turns: &turns,
+        };
+        run_clients(&run, seat, 0, clients)
     };
-    let Shared { live, of: _ } = turns.into_inner().close(rt, last);
+    let Shared { live, of: _ } = turns.into_inner().close(host.rt, last);
     Box::into_inner(live)
 }
 
 /// The same, and then what the threads have left.
-fn share<J: Setup + Send + Sync, R: Threads + Wait + Sync, B: Bank + Send, G: Gate + Sync>(
-    rt: &R,
-    alloc: Global,
+fn share<J: Setup + Send + Sync, R: Threads + Wait + Sync, G: Gate + Sync, B: Bank + Send>(
+    host: &Host<R, G>,
     live: Live<B>,
     script: &Script,
-    gate: &G,
 ) -> Finished<B>
     requires script { script.now ≡ J.script }
     requires start { J.start ≡ Some (turns_in B.disk live) }
@@ -186,20 +184,18 @@ fn share<J: Setup + Send + Sync, R: Threads + Wait + Sync, B: Bank + Send, G: Ga
     ensures limit { result.ended ≡ Limit → most_turns ≤ result.turns }
     ensures memory { result.ended ≡ NoMemory → ⊥ }
 {
-    let left = take_turns_beside::<J, R, B, G>(rt, alloc, live, script, gate);
-    finish(alloc, left, script)
+    let left = take_turns_beside::<J, R, G, B>(host, live, script);
+    finish(host.alloc, left, script)
 }
 
 /// Carries out the calls of a script's clients, each client in a thread of its own: whoever has the turn has one, and
 /// what the threads leave is carried out here. Between their turns they pass the gate. Room for all answers is made
-/// before the first turn; where memory is wanting for that, nothing is done. After 2^62 turns no more is taken.
-pub fn carry_out_beside<R: Threads + Wait + Sync, B: Bank + Send, G: Gate + Sync>(
-    rt: &R,
-    alloc: Global,
+/// before the first turn; where there is no memory for that, nothing is done. After 2^62 turns no more is taken.
+pub fn carry_out_beside<R: Threads + Wait + Sync, G: Gate + Sync, B: Bank + Send>(
+    host: &Host<R, G>,
     bank: B,
     core: Core,
     script: &Script,
-    gate: &G,
     mut journal: Journal,
 ) -> Finished<B>
     requires bank { HasBankOf core (B.disk bank) }
@@ -216,7 +212,7 @@ pub fn carry_out_beside<R: Threads + Wait + Sync, B: Bank + Send, G: Gate + Sync
     ensures memory { result.ended ≡ NoMemory → IsUntouched core (B.disk bank) journal.items
         result.core (B.disk result.bank) result.journal.items }
 {
-    let Ok(progress) = begin(alloc, script, &mut journal) else {
+    let Ok(progress) = begin(host.alloc, script, &mut journal) else {
         return Finished {
             bank,
             core,
@@ -231,5 +227,5 @@ pub fn carry_out_beside<R: Threads + Wait + Sync, B: Bank + Send, G: Gate + Sync
         journal,
         progress,
     };
-    share::<Brand, R, B, G>(rt, alloc, live, script, gate)
+    share::<Brand, R, G, B>(host, live, script)
 }

@@ -8,9 +8,11 @@
 mod batch;
 mod beside;
 mod gate;
+mod host;
 mod live;
 mod run;
 
 pub use beside::carry_out_beside;
 pub use gate::OpenGate;
+pub use host::Host;
 pub use run::run_pool_beside;

@@ -15,6 +15,7 @@ ghost use Rattle.pool_live.specs.Sharing.{AnswersNone};
 ghost use Rattle.pool_live.specs.Widening.{HasRunBeside, IsCarriedWith};
 
 use crate::beside::carry_out_beside;
+use crate::host::Host;
 use bank_trait::{Bank, Gate};
 use client_script::{Script, add_copier};
 use core_open::{OpenWhy, open_pool};
@@ -27,15 +28,13 @@ use std::thread::Threads;
 
 /// Carries out the calls of a script's clients on an open pool, each client in a thread of its own; with one more that
 /// widens the pool, where a device is to be attached or an expansion runs. The calls of an only client are carried out
-/// here. Where memory is wanting nothing is done.
-fn carry_out_with<R: Threads + Wait + Sync, B: Bank + Send, G: Gate + Sync>(
-    rt: &R,
-    alloc: Global,
+/// here. Where there is no memory nothing is done.
+fn carry_out_with<R: Threads + Wait + Sync, G: Gate + Sync, B: Bank + Send>(
+    host: &Host<R, G>,
     bank: B,
     core: Core,
     mut script: Script,
     attaches: bool,
-    gate: &G,
     journal: Journal,
 ) -> Finished<B>
     requires bank { HasBankOf core (B.disk bank) }
@@ -48,7 +47,7 @@ fn carry_out_with<R: Threads + Wait + Sync, B: Bank + Send, G: Gate + Sync>(
         (at_disk result.core (B.disk result.bank)) result.journal.items }
 {
     if attaches || core.reflow().expands() {
-        let Ok(()) = add_copier(alloc, &mut script, attaches) else {
+        let Ok(()) = add_copier(host.alloc, &mut script, attaches) else {
             return Finished {
                 bank,
                 core,
@@ -57,12 +56,12 @@ fn carry_out_with<R: Threads + Wait + Sync, B: Bank + Send, G: Gate + Sync>(
                 turns: 0,
             };
         };
-        return carry_out_beside(rt, alloc, bank, core, &script, gate, journal);
+        return carry_out_beside(host, bank, core, &script, journal);
     }
     if script.clients() <= 1 {
-        return carry_out(alloc, bank, core, &script, &[], journal);
+        return carry_out(host.alloc, bank, core, &script, &[], journal);
     }
-    carry_out_beside(rt, alloc, bank, core, &script, gate, journal)
+    carry_out_beside(host, bank, core, &script, journal)
 }
 
 /// Opens the pool that the devices show and carries out the calls of a script's clients on it, each client in a thread
@@ -107,5 +106,6 @@ pub fn run_pool_beside<R: Threads + Wait + Sync, B: Bank + Send, G: Gate + Sync>
     };
     journal.list(Item::Group(opened.pool.first_item()));
     let core = Core::new(alloc, opened.pool);
-    PoolRun::of(carry_out_with(rt, alloc, bank, core, script, attaches, gate, journal))
+    let host = Host { rt, alloc, gate };
+    PoolRun::of(carry_out_with(&host, bank, core, script, attaches, journal))
 }

@@ -43,7 +43,7 @@ module _ (old mid new : Disk) (same : Unchanged old mid) where
   not_pool_before image silent holds none = subst (λ (shape : Shape). IsNotPool shape silent image)
       (shape_then same) (none image (holds_then same holds))
 
-  -- Where nothing was found, and memory was not wanting, they choose none.
+  -- Where nothing was found, and not for lack of memory, they choose none.
   pub none_before : (image : Image) (why : OpenWhy) → HoldsImage old image → (why ≡ NoMemory → ⊥)
       → IsFindCause mid new why → ChooseNone old new image
   none_before image NotPool holds memory cause = record {

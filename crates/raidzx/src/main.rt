@@ -23,7 +23,9 @@ use hints::hint_line;
 use notes::{note_lengths, note_unopened};
 use opening::{Access, Unopened, access_for, open_image};
 use pool_live::OpenGate;
-use raidzx_top::{Outcome, Status, image_words, raidzx, read_command, write_status};
+use raidzx_top::{
+    Outcome, Status, TOO_MANY_FAILED, image_words, raidzx, read_command, write_status,
+};
 use std::alloc::{AllocFailed, Global};
 use std::env;
 use std::io::{self, ErrorKind};
@@ -31,7 +33,6 @@ use std::process::ExitCode;
 use std::sync::Wait;
 use std::thread::Threads;
 use streams::{Input, Output, hold_standard_streams};
-use uberblock_ring::DeviceSet;
 use usage::hint_usage;
 
 /// Why there is no bank over files.
@@ -85,7 +86,8 @@ fn open_files(
     Ok(bank_over(images, faults))
 }
 
-/// Carries out the command over a bank, with threads of this handle, and tells what is wrong with a script that is refused.
+/// Carries out the command over a bank, with threads of this handle, and tells what is wrong with a script that is
+/// refused.
 fn run_over<R: Threads + Wait + Sync, B: Bank + Drop + Send>(
     rt: &HostRuntime,
     threads: &R,
@@ -133,11 +135,8 @@ fn end_misused(rt: &HostRuntime, words: &[String]) -> ExitCode {
 
 /// Ends the program where this image refuses the run. Its number may be one that no set of devices has.
 fn end_refused(rt: &HostRuntime, device: u32) -> ExitCode {
-    let status = Status::TooManyFailed {
-        out: DeviceSet::empty(),
-    };
     let _ = println!(rt; "too many failed {device}");
-    ExitCode::from(status.code())
+    ExitCode::from(TOO_MANY_FAILED)
 }
 
 fn main(rt: HostRuntime) -> ExitCode {

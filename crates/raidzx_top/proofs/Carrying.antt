@@ -50,11 +50,8 @@ pub carried_in_turn : (script : Script) (old new : Disk) (items : List Item) (re
     → IfOk result (λ ran. ran.ended ≡ Limit → most_turns ≤ ran.turns)
     → IfOk result (HasCarried AsListed script old new items)
 carried_in_turn script old new items (Ok ran) has complete limit = record {
-  carried = script;
-  run = has.run;
-  carried_is = refl;
-  counted = turns_counted ran has.turns;
-  taken = λ in_turn. has.turns;
+  calls = record { carried = script; run = has.run; carried_is = refl };
+  turns = record { counted = turns_counted ran has.turns; taken = λ in_turn. has.turns };
   complete = λ memory limit. complete (ended_whole ran memory limit);
   used_up = limit;
 }
@@ -65,11 +62,8 @@ pub carried_beside : (attaches : Bool) (script : Script) (old new : Disk) (items
     → IfOk result (HasRunBeside script attaches old new items)
     → IfOk result (HasCarried (AsTheyCome attaches) script old new items)
 carried_beside attaches script old new items (Ok ran) has = record {
-  carried = has.carried;
-  run = has.run;
-  carried_is = has.carried_is;
-  counted = has.counted;
-  taken = has.taken;
+  calls = record { carried = has.carried; run = has.run; carried_is = has.carried_is };
+  turns = record { counted = has.counted; taken = has.taken };
   complete = λ memory limit. has.complete (ended_whole ran memory limit);
   used_up = has.limit;
 }

@@ -32,7 +32,7 @@ use Rattle.raidzx_top.specs.Causes.{NoneRose, IsCaused, IsCause, HaveFailedInCal
 use Rattle.raidzx_top.specs.Causes.{IsOrNoMemory}
 use Rattle.raidzx_top.specs.RunText.{IsLineFor, TextIsRight, create_text, status_line}
 use Rattle.raidzx_top.specs.Promises.{CreatePromises, IsNewSetting, NoneShowsFrom, RunIsKept, RunCompletes}
-use Rattle.raidzx_top.specs.Promises.{CallPromises}
+use Rattle.raidzx_top.specs.Promises.{CallPromises, PoolIsKept}
 use Rattle.raidzx_top.specs.StatusCall.{StatusIsTold}
 use Rattle.raidzx_top.specs.Making.{IsSmallFor, HasFailedOn, Makes, IsSaid, EndsCreate}
 use Rattle.raidzx_top.proofs.NewPools.{new_begins}
@@ -40,6 +40,7 @@ use Rattle.raidzx_top.proofs.NoStatus.{not_told}
 use Rattle.raidzx_top.proofs.Spelling.{one_create, create_no_script, create_no_status, create_spells}
 use Rattle.raidzx_top.proofs.Texts.{part_right, whole_right}
 use Rattle.raidzx_top.proofs.Refusing.{said_right}
+use Rattle.raidzx_top.proofs.Growing.{bank_may_grow}
 
 -- A set of one device has no other.
 only_one : (device other : ℕ) → has_device (with_device 0 device) other ≡ true → other ≡ device
@@ -72,13 +73,6 @@ module _ (call : TopCall) (made : NewPool) (served_as : IsServedAs call.words (s
   -- what the words ask for is this pool
   same : (given : NewPool) → IsServedAs call.words (served.Create given) → made ≡ given
   same given is = one_create call.words made given served_as is
-
-  -- devices from this pool's width on are those from the width asked for on
-  below_width : (given : NewPool) → IsServedAs call.words (served.Create given)
-      → TouchesOnly (IsOnBelow made.width) call.old call.new
-      → TouchesOnly (IsOnBelow given.width) call.old call.new
-  below_width given is only =
-      subst (λ (n : NewPool). TouchesOnly (IsOnBelow n.width) call.old call.new) (same given is) only
 
   -- no script is asked for
   no_script : {A : Type 0} → (order : Order) → IsServedAs call.words (served_by order) → A
@@ -135,10 +129,13 @@ module _ (call : TopCall) (made : NewPool) (served_as : IsServedAs call.words (s
   comes : (IsSmallFor made call.old → IsOrNoMemory call status.TooSmall) → ComesWhere call
   comes small = record {
     usage = λ none. absurd (none (served.Create made, served_as));
-    limit = λ command bytes is read over. reads_none command is read.0;
-    fault = λ command bytes line is read at. reads_none command is read.0;
-    too_small = where_small;
-    no_pool = λ command finds. absurd (finds_none finds.image command finds.given finds.served finds.command_is finds.found);
+    refused = λ command is. record {
+      limit = λ bytes read over. reads_none command is read.0;
+      fault = λ bytes line read at. reads_none command is read.0;
+      too_small = where_small command is;
+    };
+    no_pool = λ command finds. absurd (finds_none finds.shown.image command finds.given finds.served finds.command_is
+        finds.shown.found);
   }
     where
       reads_none : {A : Type 0} → (command : ServedCommand) → IsServedAs call.words command
@@ -232,29 +229,36 @@ module _ (call : TopCall) (made : NewPool) (served_as : IsServedAs call.words (s
       → TextIsRight call (create_text made.parity made.width made.id (rows_for call.old.sectors))
       → CallPromises call
   carried_out given is done makes text = record {
-    cause = caused given is (λ usage. neither usage done) (cause done);
-    comes = comes (λ small. absurd (makes.0 small));
-    refused = λ none not. absurd (not (⊎_elim (λ d. inl (is ∙ d)) (λ f. inr (is ∙ f.0)) done));
-    quiet = λ none. absurd (none (served.Create made, served_as));
-    turns = λ none. quiet_call.turns;
-    run = λ attaches. no_run (AsTheyCome attaches);
-    replay = no_run AsListed;
-    told = no_told;
-    completes = no_smooth;
-    create = record {
-      quiet = λ m served_m. quiet_call;
-      keeps = λ m served_m carried tells.
-          subst (λ (n : NewPool). CreatePromises call n.parity n.width n.id) (same m served_m)
-          (kept makes.0 (makes.2 tells) makes.1.later tells);
-      text = λ m served_m carried.
-          subst (λ (n : NewPool). TextIsRight call (create_text n.parity n.width n.id (rows_for call.old.sectors)))
-          (same m served_m) text;
-      others = λ m served_m. below_width m served_m makes.1;
-      untouched = λ refusal. absurd (⊎_elim
-          (λ usage. neither (sym is ∙ usage) done) (λ small. neither_small (sym is ∙ small) done) refusal);
+    explains = record {
+      cause = caused given is (λ usage. neither usage done) (cause done);
+      comes = comes (λ small. absurd (makes.0 small));
     };
-    complete = record {
-      done = λ m served_m fits quiet sink. ⊎_elim (λ d. is ∙ d) (λ f. absurd (sink f.1)) done;
+    refuses = record {
+      refused = λ none not. absurd (not (⊎_elim (λ d. inl (is ∙ d)) (λ f. inr (is ∙ f.0)) done));
+      quiet = λ none. absurd (none (served.Create made, served_as));
+      turns = λ none. quiet_call.turns;
+    };
+    commands = record {
+      create = record {
+        created = λ m served_m. subst (λ (n : NewPool). PoolIsKept call n) (same m served_m) (record {
+          keeps = λ carried tells. kept makes.0 (makes.2 tells) makes.1.later tells;
+          text = λ carried. text;
+          others = makes.1;
+          quiet = quiet_call;
+        });
+        untouched = λ refusal. absurd (⊎_elim
+            (λ usage. neither (sym is ∙ usage) done) (λ small. neither_small (sym is ∙ small) done) refusal);
+      };
+      run = λ attaches. no_run (AsTheyCome attaches);
+      replay = no_run AsListed;
+      told = no_told;
+    };
+    may_be_added = bank_may_grow call.new;
+    unhindered = record {
+      complete = record {
+        done = λ m served_m fits quiet sink. ⊎_elim (λ d. is ∙ d) (λ f. absurd (sink f.1)) done;
+      };
+      completes = no_smooth;
     };
   }
     where
@@ -301,29 +305,37 @@ module _ (call : TopCall) (made : NewPool) (served_as : IsServedAs call.words (s
       (status_line given)
       → CallPromises call
   refused given is no_usage no_done no_fault cause small untouched quiet_small is_small_for only line said = record {
-    cause = caused given is no_usage cause;
-    comes = comes (λ less. inl (is ∙ small less));
-    refused = λ none not. said_right call given
-        (subst (λ (s : Status). IsLineFor s given) (sym is) line)
-        (λ done. no_done (sym is ∙ done)) said;
-    quiet = λ none. absurd (none (served.Create made, served_as));
-    turns = λ none. quiet_call.turns;
-    run = λ attaches. no_run (AsTheyCome attaches);
-    replay = no_run AsListed;
-    told = no_told;
-    completes = no_smooth;
-    create = record {
-      quiet = λ m served_m. quiet_call;
-      keeps = λ m served_m carried tells. absurd (not_carried carried);
-      text = λ m served_m carried. absurd (not_carried carried);
-      others = λ m served_m. below_width m served_m only;
-      untouched = λ refusal. ⊎_elim
-          (λ usage. absurd (no_usage (sym is ∙ usage))) (λ less. untouched (sym is ∙ less)) refusal;
+    explains = record { cause = caused given is no_usage cause; comes = comes (λ less. inl (is ∙ small less)) };
+    refuses = record {
+      refused = λ none not. said_right call given
+          (subst (λ (s : Status). IsLineFor s given) (sym is) line)
+          (λ done. no_done (sym is ∙ done)) said;
+      quiet = λ none. absurd (none (served.Create made, served_as));
+      turns = λ none. quiet_call.turns;
     };
-    complete = record {
-      done = λ m served_m fits quiet sink. absurd (fits
-          (subst (λ (n : NewPool). IsTooSmall call (Create n.parity n.width n.id)) (same m served_m)
-          (too_small (is_small_for (quiet_small quiet)))));
+    commands = record {
+      create = record {
+        created = λ m served_m. subst (λ (n : NewPool). PoolIsKept call n) (same m served_m) (record {
+          keeps = λ carried tells. absurd (not_carried carried);
+          text = λ carried. absurd (not_carried carried);
+          others = only;
+          quiet = quiet_call;
+        });
+        untouched = λ refusal. ⊎_elim
+            (λ usage. absurd (no_usage (sym is ∙ usage))) (λ less. untouched (sym is ∙ less)) refusal;
+      };
+      run = λ attaches. no_run (AsTheyCome attaches);
+      replay = no_run AsListed;
+      told = no_told;
+    };
+    may_be_added = bank_may_grow call.new;
+    unhindered = record {
+      complete = record {
+        done = λ m served_m fits quiet sink. absurd (fits
+            (subst (λ (n : NewPool). IsTooSmall call (Create n.parity n.width n.id)) (same m served_m)
+            (too_small (is_small_for (quiet_small quiet)))));
+      };
+      completes = no_smooth;
     };
   }
     where

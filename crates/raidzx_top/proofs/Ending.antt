@@ -16,35 +16,40 @@ use Rattle.raidzx_top.proofs.StatusEnding.{status_promises}
 use Rattle.raidzx_top.proofs.NoStatus.{not_told}
 use Rattle.raidzx_top.proofs.Refusing.{said_right}
 use Rattle.raidzx_top.proofs.RunEnding.{run_promises}
+use Rattle.raidzx_top.proofs.Growing.{bank_may_grow}
 
 -- Words that are no command.
 refused_words : (call : TopCall) → EndsUsage call → CallPromises call
 refused_words call ends = record {
-  cause = record { usage = λ usage. ends.none; others = λ given served_as. absurd (ends.none (given, served_as)) };
-  comes = record {
-    usage = λ no_command. ends.status_is;
-    limit = λ given bytes served_as read over. absurd (ends.none (given, served_as));
-    fault = λ given bytes line served_as read at. absurd (ends.none (given, served_as));
-    too_small = λ given served_as small. absurd (ends.none (given, served_as));
-    no_pool = λ command finds. absurd (ends.none (finds.given, finds.served));
+  explains = record {
+    cause = record { usage = λ usage. ends.none; others = λ given served_as. absurd (ends.none (given, served_as)) };
+    comes = record {
+      usage = λ no_command. ends.status_is;
+      refused = λ given served_as. absurd (ends.none (given, served_as));
+      no_pool = λ command finds. absurd (ends.none (finds.given, finds.served));
+    };
   };
-  refused = λ none not. said_right call status.Usage
-      (subst (λ (s : Status). IsLineFor s status.Usage) (sym ends.status_is) refl)
-      (λ done. no_done (sym ends.status_is ∙ done)) ends.said;
-  quiet = λ none. ends.quiet;
-  turns = λ none. ends.quiet.turns;
-  create = record {
-    quiet = λ m served_m. ends.quiet;
-    keeps = λ m served_m carried tells. absurd (ends.none (served.Create m, served_m));
-    text = λ m served_m carried. absurd (ends.none (served.Create m, served_m));
-    others = λ m served_m. absurd (ends.none (served.Create m, served_m));
-    untouched = λ refusal. ends.same;
+  refuses = record {
+    refused = λ none not. said_right call status.Usage
+        (subst (λ (s : Status). IsLineFor s status.Usage) (sym ends.status_is) refl)
+        (λ done. no_done (sym ends.status_is ∙ done)) ends.said;
+    quiet = λ none. ends.quiet;
+    turns = λ none. ends.quiet.turns;
   };
-  run = λ attaches. kept (AsTheyCome attaches);
-  replay = kept AsListed;
-  told = not_told call (λ is. ends.none (served.Status, is));
-  complete = record { done = λ m served_m fits quiet sink. absurd (ends.none (served.Create m, served_m)) };
-  completes = λ order smooth. absurd (ends.none (served_by order, smooth.served));
+  commands = record {
+    create = record {
+      created = λ m served_m. absurd (ends.none (served.Create m, served_m));
+      untouched = λ refusal. ends.same;
+    };
+    run = λ attaches. kept (AsTheyCome attaches);
+    replay = kept AsListed;
+    told = not_told call (λ is. ends.none (served.Status, is));
+  };
+  may_be_added = bank_may_grow call.new;
+  unhindered = record {
+    complete = record { done = λ m served_m fits quiet sink. absurd (ends.none (served.Create m, served_m)) };
+    completes = λ order smooth. absurd (ends.none (served_by order, smooth.served));
+  };
 }
   where
     no_done : status.Usage ≡ status.Done → ⊥

@@ -4,6 +4,7 @@ pub mod Spelling
 pub mod Refusing
 pub mod Texts
 pub mod NoStatus
+pub mod Growing
 pub mod Creating
 pub mod Telling
 pub mod Reading

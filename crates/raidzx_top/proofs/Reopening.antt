@@ -5,7 +5,8 @@ use Rattle.std.specs.Prelude.{All, Contains, take}
 use Rattle.std.specs.List.{AllZip}
 use Rattle.std.proofs.lemmas.List.Elements.{Contains-append_cases}
 use Rattle.std.proofs.lemmas.Option.{slice_get_within}
-use Rattle.bank_trait.specs.Disk.{Image, Disk, Unchanged}
+use Rattle.bank_trait.specs.Disk.{Image, Disk, Later, Unchanged}
+use Rattle.bank_trait.proofs.Moments.{later_trans}
 use Rattle.uberblock_ring.specs.Uberblock.{Uber}
 use Rattle.core_state.specs.declared.item.Entry.{Entry}
 use Rattle.core_state.specs.declared.item.Group.{Group as GroupItem}
@@ -14,7 +15,7 @@ use Rattle.core_state.specs.declared.item.Item.TheVariants.{Call}
 use Rattle.core_state.specs.Map.{Map, PutBytes, SameMap, map_after}
 use Rattle.core_state.specs.Legal.{CallAt}
 use Rattle.core_state.specs.Keeps.{HaveParity, Kept, Setting, Keeps}
-use Rattle.core_state.specs.Moment.{IsGroupOf, IsBegunAfter, IsUnanswered, KeepsSince, groups_in}
+use Rattle.core_state.specs.Moment.{IsGroupOf, IsBegunAfter, IsUnanswered, KeepsRow, KeepsSince, groups_in}
 use Rattle.core_state.proofs.Listed.{contains_none, contains_cases, contains_head}
 use Rattle.core_state.proofs.Widths.{first_width}
 use Rattle.core_open.specs.Opens.{AddsOne, IsWithinBelow}
@@ -23,12 +24,18 @@ use Rattle.core_open.proofs.Unchanged.{unchanged_keeps}
 use Rattle.core_open.specs.Opening.{CutsOpening, MayBegin}
 use Rattle.core_open.specs.Stopped.{IsImageOf}
 use Rattle.core_open.proofs.Reopened.{stopped_begins}
+use Rattle.core_open.proofs.GoingOn.{goes_on_begins}
+use Rattle.core_open.specs.Holds.{shape_of}
 use Rattle.client_script.specs.Script.{Script, IsAllowed, asked_by, handed_by}
 use Rattle.journal_law.proofs.Rows.{row_among}
 use Rattle.journal_law.proofs.RunBytes.{HoldsBytes, HandsBytes, after_bytes, script_hands}
 use Rattle.schedule.specs.WholeRun.{HasRun, RunKeeps, banks_of}
-use Rattle.raidzx_top.specs.Reopened.{BearsCut, IsLeft, IsLeftOn, ReadsBack, IsReadBack, SurvivesOpening, SurvivesStops}
+use Rattle.raidzx_top.specs.Reopened.{IsToldOn, BearsCut, IsLeft, IsLeftOn, ReadsBack, IsReadBack, SurvivesOpening, SurvivesStops}
 use Rattle.raidzx_top.specs.Reopened.{last_groups}
+
+-- A bank that goes on has the devices and the sectors that it had.
+same_shape : (old new : Disk) → Later old new → shape_of new ≡ shape_of old
+same_shape old new later = λ i. record { devices = later.devices i; sectors = later.sectors i }
 
 -- The groups have maps of bytes.
 abbrev HaveBytes : List Kept → Type 0
@@ -181,17 +188,38 @@ module _ (script : Script) (old new : Disk) (items : List Item) (out : ℕ) (run
       (last_bytes items hands keeps.kept.group keeps.kept.last keeps.kept.begun keeps.kept.last_is
       keeps.kept.begun_is)
 
+  -- A run may begin on the bank that is given back.
+  onward : Later old new
+  onward = later_trans run.opens.later run.turns.onward
+
+  goes_on : IsToldOn (record setting { reach = keeps.kept.reach }) (keeps.kept.last ∷ keeps.kept.begun) new
+      → MayBegin (record setting { reach = keeps.kept.reach }) keeps.kept.last keeps.kept.begun new
+  goes_on told = record {
+    may = record {
+      keeps = keeps.kept.keeps;
+      shape = may.may.shape ∙ sym (same_shape old new onward);
+      tells = told.tells;
+      pages = told.pages;
+      parity = λ kept listed. parity_is kept listed
+          ∙ sym (parity_is keeps.kept.last (contains_head keeps.kept.last keeps.kept.begun));
+    };
+    excepted = may.excepted;
+    bytes = λ kept id content listed. last_bytes items hands keeps.kept.group keeps.kept.last keeps.kept.begun
+        keeps.kept.last_is keeps.kept.begun_is kept listed id content;
+  }
+    where
+      parity_is : (kept : Kept) → Contains (keeps.kept.last ∷ keeps.kept.begun) kept
+          → kept.uber.parity ≡ first.uber.parity
+      parity_is kept listed = keeps.groups.parities kept (keeps.groups.kept_among kept listed)
+
   -- A run or a replay survives a stop at any moment of it.
   pub survives_stops : SurvivesStops setting first later script old new items (banks_of run)
   survives_stops = record {
     opening = keeps.chosen.map;
     legal = keeps.journal.legal;
-    groups = keeps.any_moment.groups;
-    any_moment = any_moment;
-    no_older = keeps.no_older;
-    by_then = by_then;
-    kept = keeps.kept;
-    at_end = at_end;
+    ever = record { groups = keeps.any_moment.groups; any_moment = any_moment };
+    by_turn = record { no_older = keeps.no_older; by_then = by_then };
+    finally = record { kept = keeps.kept; at_end = at_end; goes_on = goes_on };
   }
 
 module _ (setting : Setting) (first : Kept) (later : List Kept) (old : Disk) (may : MayBegin setting first later old)
@@ -213,16 +241,28 @@ module _ (setting : Setting) (first : Kept) (later : List Kept) (old : Disk) (ma
           may.bytes from.0 id content from.1 (sym (from.2.map id) ∙ has))
           (Contains-append_cases (first ∷ later) joined kept listed)
 
-      some_back : {new : Disk} → KeepsSince setting ((first ∷ later) ++ joined) old.clock new
+      some_back : {new : Disk} → Later old new → KeepsSince setting ((first ∷ later) ++ joined) old.clock new
           → SurvivesOpening setting first later old new
-      some_back since = record {
+      some_back {new} onward since = record {
         joined = joined;
         adds = adds;
+        reach = now.reach;
+        goes_on = λ told. record {
+          first = now.first;
+          later = now.later;
+          among = row_among (record { before = now.before; after = now.after; row = now.row });
+          may = goes_on_begins setting ((first ∷ later) ++ joined) first.uber.parity new now
+              (may.may.shape ∙ sym (same_shape old new onward)) may.excepted told.tells told.pages joined_parity
+              (λ kept id content listed. joined_bytes kept listed id content);
+        };
         any_moment = λ moment image from until left.
             let some = since.each moment from until in
             read_back setting some.reach ((first ∷ later) ++ joined) first some.first some.later image may.excepted left.only (some.keeps image left.might)
             (row_among (record { before = some.before; after = some.after; row = some.row })) joined_parity joined_bytes;
       }
+        where
+          now : KeepsRow setting ((first ∷ later) ++ joined) new new.clock
+          now = let clock = onward.clock in since.each new.clock (omega (arith, clock)) (omega arith)
 
     none_joins : AddsOne (first ∷ later) []
     none_joins = record { one = omega arith; renews = λ next here. absurd (contains_none next here) }
@@ -232,7 +272,7 @@ module _ (setting : Setting) (first : Kept) (later : List Kept) (old : Disk) (ma
         → BearsCut setting first.uber.reflow.to cut
         → SurvivesOpening setting first later old new
     survives_opening new (inl same) bears =
-        some_back [] none_joins (unchanged_keeps setting first later [] same may.may.keeps)
+        some_back [] none_joins same.goes_on.later (unchanged_keeps setting first later [] same may.may.keeps)
     survives_opening new (inr cuts) bears =
         let keeps = cuts.keeps.since setting first later may.may bears.0 bears.1 in
-        some_back keeps.0 keeps.1 keeps.2
+        some_back keeps.0 keeps.1 cuts.only.later keeps.2

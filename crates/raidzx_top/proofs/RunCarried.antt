@@ -75,12 +75,12 @@ module _ (order : Order) (call : TopCall) (lawful : Lawful call.old)
   abbrev out : ℕ
   out = was.ran.out
 
-  run : HasRun was.done.carried call.old call.new call.journal out
-  run = was.done.run
+  run : HasRun was.done.calls.carried call.old call.new call.journal out
+  run = was.done.calls.run
 
   -- Each call that was carried out is allowed.
-  allowed : All (λ placed. IsAllowed placed.call) was.done.carried.calls
-  allowed = carried_allowed order was.script was.done.carried was.done.run.opened was.done.carried_is
+  allowed : All (λ placed. IsAllowed placed.call) was.done.calls.carried.calls
+  allowed = carried_allowed order was.script was.done.calls.carried was.done.calls.run.opened was.done.calls.carried_is
       was.read.allowed
 
   -- The silent devices have failed.
@@ -163,11 +163,11 @@ module _ (order : Order) (call : TopCall) (lawful : Lawful call.old)
   -- Nothing to choose contradicts a choice.
   no_pool : FindsNoPool call (command_in order) → ⊥
   no_pool finds =
-      let holds : HoldsImage call.old finds.image = held_at_entry call order finds.image finds.found in
-      let choice = (run.devices.each finds.image holds).choice in
-      let none : IsNotPool (shape_of call.old) run.silent finds.image =
-      subst (λ (n : ℕ). IsNotPool (shape_of call.old) n finds.image)
-      (sym (none_silent call.old call.new run.silent failed finds.quiet)) finds.none in
+      let holds : HoldsImage call.old finds.shown.image = held_at_entry call order finds.shown.image finds.shown.found in
+      let choice = (run.devices.each finds.shown.image holds).choice in
+      let none : IsNotPool (shape_of call.old) run.silent finds.shown.image =
+      subst (λ (n : ℕ). IsNotPool (shape_of call.old) n finds.shown.image)
+      (sym (none_silent call.old call.new run.silent failed finds.quiet)) finds.shown.none in
       none.none choice.uber.pool choice.device choice.uber choice.entries choice.chosen.pool choice.chosen.reads
       choice.chosen.candidate
 
@@ -206,26 +206,25 @@ module _ (order : Order) (call : TopCall) (lawful : Lawful call.old)
 
   promises : RunPromises order call
   promises = record {
-    script = was.script;
-    script_is = was.read.is;
-    ran = was.ran;
-    carried = was.done.carried;
-    run = was.done.run;
-    carried_is = was.done.carried_is;
-    counted = was.done.counted;
-    taken = was.done.taken;
-    turns = was.turns_are;
-    lines = λ one. was.done.run.answers.lines one (carried_actors_in order was.script was.done.carried was.done.run.opened
-        was.done.carried_is was.read.clients was.read.actors);
-    binds = λ setting first later failed may bears.
-        was.done.run.keeps (setting_with setting failed) first later
-        (may_bear setting first later call.old was.done.run.silent was.done.run.borne failed may bears)
-        bears.missed bears.now;
-    survives = survives_stops was.done.carried call.old call.new call.journal was.ran.out was.done.run allowed;
-    complete = λ other counted. was.done.complete (λ stopped. had_memory other (inl stopped)) counted;
-    memory = λ other index entry there is. had_memory other (inr (index, entry, there, is));
-    used_up = used_up;
-    too_many = many_listed;
+    did = record { script = was.script; script_is = was.read.is; ran = was.ran; calls = was.done.calls };
+    in_turn = record {
+      turns = was.turns_are;
+      are_told = was.done.turns;
+      lines = λ one. was.done.calls.run.answers.lines one (carried_actors_in order was.script was.done.calls.carried
+          was.done.calls.run.opened was.done.calls.carried_is was.read.clients was.read.actors);
+    };
+    keeps = record {
+      binds = λ setting first later failed may bears. was.done.calls.run.keeps (setting_with setting failed) first later
+          (may_bear setting first later call.old was.done.calls.run.silent was.done.calls.run.borne failed may bears)
+          bears.missed bears.now;
+      survives = survives_stops was.done.calls.carried call.old call.new call.journal was.ran.out was.done.calls.run allowed;
+    };
+    answers = record {
+      complete = λ other counted. was.done.complete (λ stopped. had_memory other (inl stopped)) counted;
+      memory = λ other index entry there is. had_memory other (inr (index, entry, there, is));
+      used_up = used_up;
+      too_many = many_listed;
+    };
     text = text;
     status_is = record {
       line = was.line;
@@ -248,30 +247,30 @@ module _ (order : Order) (call : TopCall) (lawful : Lawful call.old)
     -- No call tells of too many failed devices.
     few : (listed : ℕ) → ((image : Image) → HoldsImage call.old image → AreTooMany call.old call.new image listed) → ⊥
     few listed many = apart (caused call.old call.new (reason.TooManyFailed listed) lawful (inr many)
-        smooth.setting smooth.first smooth.later smooth.unhindered)
+        smooth.bank.setting smooth.bank.first smooth.bank.later smooth.bank.unhindered)
       where
         apart : reason.TooManyFailed listed ≡ reason.NoMemory → ⊥
         apart same = cc
 
     none_rose : (device : ℕ) → FaultCounted (call.old.faults device) (call.new.faults device) → ⊥
-    none_rose = smooth.unhindered.works
+    none_rose = smooth.bank.unhindered.works
 
     -- No device is out in the end.
     none_out : (device : ℕ) → has_device out device ≡ true → ⊥
     none_out device has =
-        let holds : HoldsImage call.old (present call.old) = present_held call.old smooth.may.may.tells in
+        let holds : HoldsImage call.old (present call.old) = present_held call.old smooth.bank.may.may.tells in
         let each = run.devices.each (present call.old) holds in
         let choice = each.choice in
         let silent = none_silent call.old call.new run.silent failed none_rose in
         ⊎_elim
-        (λ missed. smooth.unhindered.in_use (present call.old) choice.device choice.uber choice.entries device holds
+        (λ missed. smooth.bank.unhindered.in_use (present call.old) choice.device choice.uber choice.entries device holds
         (subst (λ (n : ℕ). IsChosen (shape_of call.old) n (present call.old) choice.device choice.uber choice.entries)
         silent choice.chosen)
         (subst (λ (n : ℕ). IsOutAtOpening (shape_of call.old) n (present call.old) choice.uber device) silent missed))
         (λ rose. none_rose device rose) (each.each device has)
 
-    keeps : RunKeeps was.done.carried smooth.setting smooth.first smooth.later call.old call.new call.journal run.parity run.silent (banks_of run)
-    keeps = run.keeps smooth.setting smooth.first smooth.later smooth.may
+    keeps : RunKeeps was.done.calls.carried smooth.bank.setting smooth.bank.first smooth.bank.later call.old call.new call.journal run.parity run.silent (banks_of run)
+    keeps = run.keeps smooth.bank.setting smooth.bank.first smooth.bank.later smooth.bank.may
         (λ device below has. absurd (none_rose device (failed device has).1))
         (λ device has. absurd (none_out device (run.bears.within device has)))
 
@@ -279,13 +278,13 @@ module _ (order : Order) (call : TopCall) (lawful : Lawful call.old)
     of_client : (index : ℕ) (entry : Entry) → CallAt call.journal index entry → (asked : Kind) → entry.kind ≡ asked
         → IsClients asked
     of_client index entry there asked is = subst (λ (k : Kind). IsClients k) is
-        (answers_client was.done.carried (handed_by was.done.carried) keeps.chosen.map call.journal allowed keeps.journal.legal index
+        (answers_client was.done.calls.carried (handed_by was.done.calls.carried) keeps.chosen.map call.journal allowed keeps.journal.legal index
         entry there).0
 
     answers : (index : ℕ) (entry : Entry) → CallAt call.journal index entry → (given : Answer) → entry.answer ≡ given
         → IsAnswerOf entry.kind given
     answers index entry there given is = subst (λ (a : Answer). IsAnswerOf entry.kind a) is
-        (answers_client was.done.carried (handed_by was.done.carried) keeps.chosen.map call.journal allowed keeps.journal.legal index
+        (answers_client was.done.calls.carried (handed_by was.done.calls.carried) keeps.chosen.map call.journal allowed keeps.journal.legal index
         entry there).1
 
     is_smooth : (index : ℕ) (entry : Entry) → CallAt call.journal index entry → (given : Answer) → entry.answer ≡ given

@@ -15,13 +15,14 @@ use Rattle.raidzx_top.specs.declared.words.ServedCommand.TheVariants as served
 use Rattle.raidzx_top.specs.Call.{TopCall, IsCarriedOut, MakesGroups, Opens, ReadsScript}
 use Rattle.raidzx_top.specs.Order.{served_by}
 use Rattle.raidzx_top.specs.Causes.{IsCause, IsFoundImage, IsReadWhole, IsOrNoMemory, IsFaultOrNoMemory, IsTooSmall}
-use Rattle.raidzx_top.specs.Causes.{FindsNoPool}
+use Rattle.raidzx_top.specs.Causes.{FindsNoPool, IsRefusedWhere}
 use Rattle.raidzx_top.specs.Promises.{CallPromises, RunPromises, RunIsKept, LeavesNone, RunsUnhindered, CompletesAll}
 use Rattle.raidzx_top.specs.RunText.{TextIsRight}
 use Rattle.raidzx_top.specs.Spelled.{IsServedAs, command_of}
 use Rattle.raidzx_top.specs.Words.{Command}
 use Rattle.raidzx_top.proofs.NoStatus.{not_told}
 use Rattle.raidzx_top.proofs.Spelling.{create_no_script, one_manner, script_no_status}
+use Rattle.raidzx_top.proofs.Growing.{bank_may_grow}
 
 -- the command that carries a script out in this manner
 abbrev pub command_in : Order → Command
@@ -111,39 +112,41 @@ module _ (order : Order) (call : TopCall) (served_as : IsServedAs call.words (se
 
   pub run_keeps_promises : CallPromises call
   run_keeps_promises = record {
-    cause = record {
-      usage = λ usage. absurd (ends.no_usage usage);
-      others = for_script (λ (c : Command). IsCause call c call.status) ends.cause;
+    explains = record {
+      cause = record {
+        usage = λ usage. absurd (ends.no_usage usage);
+        others = for_script (λ (c : Command). IsCause call c call.status) ends.cause;
+      };
+      comes = record {
+        usage = λ none. absurd (none (served_by order, served_as));
+        refused = for_script (λ (c : Command). IsRefusedWhere call c) (record {
+          limit = ends.limit;
+          fault = ends.fault;
+          too_small = λ less. absurd (no_size call order less);
+        });
+        no_pool = λ command finds. for_script
+            (λ (c : Command). FindsNoPool call c → IsOrNoMemory call status.NotPool)
+            ends.no_pool finds.given finds.served
+            (subst (λ (c : Command). FindsNoPool call c) (sym finds.command_is) finds);
+      };
     };
-    comes = record {
-      usage = λ none. absurd (none (served_by order, served_as));
-      limit = λ given bytes is read over.
-          for_script (λ (c : Command). IsReadWhole call c bytes → IsOrNoMemory call status.Limit)
-          (λ whole. ends.limit bytes whole over) given is read;
-      fault = λ given bytes line is read at.
-          for_script (λ (c : Command). IsReadWhole call c bytes → IsFaultOrNoMemory call line)
-          (λ whole. ends.fault bytes line whole at) given is read;
-      too_small = λ given is small.
-          for_script (λ (c : Command). IsTooSmall call c → IsOrNoMemory call status.TooSmall)
-          (λ less. absurd (no_size call order less)) given is small;
-      no_pool = λ command finds. for_script
-          (λ (c : Command). FindsNoPool call c → IsOrNoMemory call status.NotPool)
-          ends.no_pool finds.given finds.served
-          (subst (λ (c : Command). FindsNoPool call c) (sym finds.command_is) finds);
+    refuses = record {
+      refused = ends.refused;
+      quiet = λ none. absurd (none (served_by order, served_as));
+      turns = λ none. (ends.unopened none).turns;
     };
-    refused = ends.refused;
-    quiet = λ none. absurd (none (served_by order, served_as));
-    turns = λ none. (ends.unopened none).turns;
-    create = record {
-      quiet = λ made is. no_create made is;
-      keeps = λ made is carried tells. no_create made is;
-      text = λ made is carried. no_create made is;
-      others = λ made is. no_create made is;
-      untouched = λ refusal. ⊎_elim (λ usage. absurd (ends.no_usage usage)) (λ small. absurd (ends.no_small small)) refusal;
+    commands = record {
+      create = record {
+        created = λ made is. no_create made is;
+        untouched = λ refusal. ⊎_elim (λ usage. absurd (ends.no_usage usage)) (λ small. absurd (ends.no_small small)) refusal;
+      };
+      run = λ attaches. kept (AsTheyCome attaches);
+      replay = kept AsListed;
+      told = not_told call (script_no_status call.words order served_as);
     };
-    run = λ attaches. kept (AsTheyCome attaches);
-    replay = kept AsListed;
-    told = not_told call (script_no_status call.words order served_as);
-    complete = record { done = λ made is fits quiet sink. no_create made is };
-    completes = completing;
+    may_be_added = bank_may_grow call.new;
+    unhindered = record {
+      complete = record { done = λ made is fits quiet sink. no_create made is };
+      completes = completing;
+    };
   }

@@ -71,8 +71,8 @@ well_read : (order : Order) (call : TopCall) (bytes : List ℕ) → IsReadWhole 
 well_read order call bytes whole = record { told = whole.1; well = whole.2 }
 
 smooth_well : (order : Order) (call : TopCall) (smooth : RunsUnhindered order call)
-    → IsWell call.source call.source_after smooth.bytes
-smooth_well order call smooth = record { told = smooth.told; well = smooth.source }
+    → IsWell call.source call.source_after smooth.read.bytes
+smooth_well order call smooth = record { told = smooth.read.told; well = smooth.read.source }
 
 left_alone : (old new : Disk) → new ≡ old → Unchanged old new
 left_alone old new same = subst (λ (disk : Disk). Unchanged old disk) (sym same) (unchanged_none old)
@@ -100,7 +100,7 @@ unread order call no_turns why is same status_is = record {
     turns = no_turns;
   };
   smooth = λ smooth. status_is
-      ∙ ap read_status (is.script smooth.bytes smooth.script (smooth_well order call smooth) smooth.script_is);
+      ∙ ap read_status (is.script smooth.read.bytes smooth.read.script (smooth_well order call smooth) smooth.read.script_is);
 }
   where
     caused : (why : ReadRefused) → IsUnread call.source call.source_after why
@@ -164,7 +164,7 @@ unopened order call none_yet no_turns script was_read why is status_is = record 
     turns = no_turns;
   };
   smooth = λ smooth. status_is
-      ∙ ap why_status (is.opens smooth.setting smooth.first smooth.later smooth.unhindered);
+      ∙ ap why_status (is.opens smooth.bank.setting smooth.bank.first smooth.bank.later smooth.bank.unhindered);
 }
   where
     caused : (why : OpenWhy) → IsUnopened call.old call.new why → IsCause call (command_in order) (why_status why)
@@ -181,11 +181,11 @@ unopened order call none_yet no_turns script was_read why is status_is = record 
     caused reason.NoMemory is = opens order
 
     -- A choice contradicts that there is nothing to choose.
-    no_choice : (finds : FindsNoPool call (command_in order)) → IsShownChoice call.old call.new finds.image → ⊥
+    no_choice : (finds : FindsNoPool call (command_in order)) → IsShownChoice call.old call.new finds.shown.image → ⊥
     no_choice finds shown =
-        let none : IsNotPool (shape_of call.old) shown.silent finds.image =
-        subst (λ (n : ℕ). IsNotPool (shape_of call.old) n finds.image)
-        (sym (none_silent call.old call.new shown.silent shown.failed finds.quiet)) finds.none in
+        let none : IsNotPool (shape_of call.old) shown.silent finds.shown.image =
+        subst (λ (n : ℕ). IsNotPool (shape_of call.old) n finds.shown.image)
+        (sym (none_silent call.old call.new shown.silent shown.failed finds.quiet)) finds.shown.none in
         let choice = shown.choice in
         none.none choice.uber.pool choice.device choice.uber choice.entries choice.chosen.pool choice.chosen.reads
         choice.chosen.candidate
@@ -195,9 +195,9 @@ unopened order call none_yet no_turns script was_read why is status_is = record 
     says reason.NotPool is finds = inl refl
     says (reason.TooManyFailed out) is finds = absurd (⊎_elim
         (λ failed. failed.0 (none_silent call.old call.new out failed.1 finds.quiet))
-        (λ many. no_choice finds (many finds.image (held_at_entry call order finds.image finds.found)).shown) is.cause)
+        (λ many. no_choice finds (many finds.shown.image (held_at_entry call order finds.shown.image finds.shown.found)).shown) is.cause)
     says (reason.Limit group) is finds =
-        absurd (no_choice finds (is.cause finds.image (held_at_entry call order finds.image finds.found)).0)
+        absurd (no_choice finds (is.cause finds.shown.image (held_at_entry call order finds.shown.image finds.shown.found)).0)
     says reason.NoMemory is finds = inr refl
 
     left : (why : OpenWhy) → IsUnopened call.old call.new why → (why ≡ reason.NoMemory → ⊥)

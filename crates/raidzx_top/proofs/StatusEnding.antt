@@ -17,8 +17,8 @@ use Rattle.raidzx_top.specs.declared.words.NewPool.{NewPool}
 use Rattle.raidzx_top.specs.declared.words.ServedCommand.{ServedCommand}
 use Rattle.raidzx_top.specs.declared.words.ServedCommand.TheVariants as served
 use Rattle.raidzx_top.specs.Call.{TopCall, IsCarriedOut, IsQuiet}
-use Rattle.raidzx_top.specs.Causes.{FindsNoPool, IsCause, IsFaultOrNoMemory, IsFoundImage, IsOrNoMemory, IsReadWhole}
-use Rattle.raidzx_top.specs.Causes.{IsTooSmall, NoneRose}
+use Rattle.raidzx_top.specs.Causes.{FindsNoPool, IsCause, IsFoundImage, IsOrNoMemory, IsRefusedWhere, IsTooSmall}
+use Rattle.raidzx_top.specs.Causes.{NoneRose}
 use Rattle.raidzx_top.specs.Exit.{why_status}
 use Rattle.raidzx_top.specs.Looking.{EndsStatus, IsLookAt, WasSeen, WasUnseen}
 use Rattle.raidzx_top.specs.Order.{served_by}
@@ -32,6 +32,7 @@ use Rattle.raidzx_top.proofs.RunParts.{none_silent}
 use Rattle.raidzx_top.proofs.RunRefused.{IsRefusal, refuses_open}
 use Rattle.raidzx_top.proofs.Spelling.{create_no_status, script_no_status}
 use Rattle.raidzx_top.proofs.Texts.{part_right, whole_right}
+use Rattle.raidzx_top.proofs.Growing.{bank_may_grow}
 
 abbrev asked : Command
 asked = command_of served.Status
@@ -107,8 +108,8 @@ module _ (call : TopCall) (was : WasSeen call.old call.new call.sink call.sink_a
         (λ fault. fault_no_usage (sym fault.0 ∙ usage)) was.told;
     no_small = λ small. ⊎_elim (λ done. done_no_small (sym done.0 ∙ small))
         (λ fault. fault_no_small (sym fault.0 ∙ small)) was.told;
-    no_pool = λ finds. absurd (seen_there call was.look was.is finds.image (held call finds.image finds.found)
-        finds.quiet finds.none);
+    no_pool = λ finds. absurd (seen_there call was.look was.is finds.shown.image (held call finds.shown.image finds.shown.found)
+        finds.quiet finds.shown.none);
     refused = λ undone. absurd (undone (⊎_elim (λ done. inl done.0) (λ fault. inr fault.0) was.told));
     look = λ carried. record {
       look = was.look;
@@ -153,12 +154,12 @@ module _ (call : TopCall) (was : WasUnseen call.old call.new call.sink call.sink
   says reason.NotPool cause unlimited finds = inl refl
   says (reason.TooManyFailed out) cause unlimited finds = absurd (⊎_elim
       (λ failed. failed.0 (none_silent call.old call.new out failed.1 finds.quiet))
-      (λ many. choice_there call finds.image finds.quiet
-      (many finds.image (held call finds.image finds.found)).shown finds.none) cause)
+      (λ many. choice_there call finds.shown.image finds.quiet
+      (many finds.shown.image (held call finds.shown.image finds.shown.found)).shown finds.shown.none) cause)
   says (reason.Limit group) cause unlimited finds = absurd (unlimited group refl)
   says reason.NoMemory cause unlimited finds = inr refl
 
-  -- Where nothing is in the way, memory was wanting.
+  -- Where nothing is in the way, there was no memory.
   for_memory : (why : OpenWhy) → IsOpenCause call.old call.new why → ((group : ℕ) → why ≢ reason.Limit group)
       → LooksUnhindered call → why ≡ reason.NoMemory
   for_memory reason.NotPool cause unlimited unhindered =
@@ -220,45 +221,47 @@ module _ (call : TopCall) (served_as : IsServedAs call.words served.Status) (qui
 
   pub status_promises : CallPromises call
   status_promises = record {
-    cause = record {
-      usage = λ usage. absurd (status_end.no_usage usage);
-      others = for_status (λ (c : Command). IsCause call c call.status) status_end.cause;
+    explains = record {
+      cause = record {
+        usage = λ usage. absurd (status_end.no_usage usage);
+        others = for_status (λ (c : Command). IsCause call c call.status) status_end.cause;
+      };
+      comes = record {
+        usage = λ none. absurd (none (served.Status, served_as));
+        refused = for_status (λ (c : Command). IsRefusedWhere call c) (record {
+          limit = λ bytes whole over. absurd whole.0;
+          fault = λ bytes line whole at. absurd whole.0;
+          too_small = λ less. absurd (no_size call less);
+        });
+        no_pool = λ command finds. for_status
+            (λ (c : Command). FindsNoPool call c → IsOrNoMemory call status.NotPool)
+            status_end.no_pool finds.given finds.served
+            (subst (λ (c : Command). FindsNoPool call c) (sym finds.command_is) finds);
+      };
     };
-    comes = record {
-      usage = λ none. absurd (none (served.Status, served_as));
-      limit = λ given bytes is read over.
-          for_status (λ (c : Command). IsReadWhole call c bytes → IsOrNoMemory call status.Limit)
-          (λ whole. absurd whole.0) given is read;
-      fault = λ given bytes line is read at.
-          for_status (λ (c : Command). IsReadWhole call c bytes → IsFaultOrNoMemory call line)
-          (λ whole. absurd whole.0) given is read;
-      too_small = λ given is small.
-          for_status (λ (c : Command). IsTooSmall call c → IsOrNoMemory call status.TooSmall)
-          (λ less. absurd (no_size call less)) given is small;
-      no_pool = λ command finds. for_status
-          (λ (c : Command). FindsNoPool call c → IsOrNoMemory call status.NotPool)
-          status_end.no_pool finds.given finds.served
-          (subst (λ (c : Command). FindsNoPool call c) (sym finds.command_is) finds);
+    refuses = record {
+      refused = λ none undone. status_end.refused undone;
+      quiet = λ none. absurd (none (served.Status, served_as));
+      turns = λ none. quiet.turns;
     };
-    refused = λ none undone. status_end.refused undone;
-    quiet = λ none. absurd (none (served.Status, served_as));
-    turns = λ none. quiet.turns;
-    create = record {
-      quiet = λ made is. no_create made is;
-      keeps = λ made is carried tells. no_create made is;
-      text = λ made is carried. no_create made is;
-      others = λ made is. no_create made is;
-      untouched = λ refusal. ⊎_elim (λ usage. absurd (status_end.no_usage usage))
-          (λ small. absurd (status_end.no_small small)) refusal;
+    commands = record {
+      create = record {
+        created = λ made is. no_create made is;
+        untouched = λ refusal. ⊎_elim (λ usage. absurd (status_end.no_usage usage))
+            (λ small. absurd (status_end.no_small small)) refusal;
+      };
+      run = λ attaches. no_run (AsTheyCome attaches);
+      replay = no_run AsListed;
+      told = record {
+        unchanged = λ is. ends.unchanged;
+        quiet = λ is. quiet;
+        look = λ is carried. status_end.look carried;
+        complete = status_end.complete;
+      };
     };
-    run = λ attaches. no_run (AsTheyCome attaches);
-    replay = no_run AsListed;
-    told = record {
-      unchanged = λ is. ends.unchanged;
-      quiet = λ is. quiet;
-      look = λ is carried. status_end.look carried;
-      complete = status_end.complete;
+    may_be_added = bank_may_grow call.new;
+    unhindered = record {
+      complete = record { done = λ made is fits works sink. no_create made is };
+      completes = λ order smooth. no_script order smooth.served;
     };
-    complete = record { done = λ made is fits works sink. no_create made is };
-    completes = λ order smooth. no_script order smooth.served;
   }

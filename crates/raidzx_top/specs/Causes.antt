@@ -103,11 +103,11 @@ pub record IsCaused (call : TopCall) : Type 0 where
   pub others : (given : ServedCommand) → IsServedAs call.words given
       → IsCause call (command_of given) call.status
 
--- The status is this one, or memory was wanting.
+-- The status is this one, or there was no memory.
 abbrev pub IsOrNoMemory : TopCall → Status → Type 0
 IsOrNoMemory call wanted = (call.status ≡ wanted) ⊎ (call.status ≡ status.NoMemory)
 
--- The status is that this line breaks the grammar, and why, or memory was wanting.
+-- The status is that this line breaks the grammar, and why, or there was no memory.
 abbrev pub IsFaultOrNoMemory : TopCall → ℕ → Type 0
 IsFaultOrNoMemory call line =
     ((why : LineFault) × (call.status ≡ status.ScriptFault line why)) ⊎ (call.status ≡ status.NoMemory)
@@ -117,33 +117,41 @@ abbrev pub IsReadWhole : TopCall → Command → List ℕ → Type 0
 IsReadWhole call command bytes = ReadsScript command × (call.source.bytes ≡ Some bytes)
     × (FaultCounted call.source.faults call.source_after.faults → ⊥)
 
+-- The source gave a script that breaks no rule, to a command that reads one.
+abbrev pub GivesScriptTo : TopCall → Command → Type 0
+GivesScriptTo call command = ReadsScript command → (bytes : List ℕ) × IsReadWhole call command bytes
+    × (IsOverLimit bytes → ⊥) × ((line : ℕ) → IsFaultAt bytes line → ⊥)
+
+-- What an opening finds has no candidate.
+pub record ShowsNoPool (call : TopCall) (command : Command) : Type 0 where
+  pub image : Image
+  pub found : IsFoundImage call command image
+  pub none : IsNotPool (shape_of call.old) 0 image
+
 -- A command that opens a pool, once its script is read: it finds no candidate and no device fails.
 pub record FindsNoPool (call : TopCall) (command : Command) : Type 0 where
   pub given : ServedCommand
   pub served : IsServedAs call.words given
   pub command_is : command_of given ≡ command
-  pub script : ReadsScript command → (bytes : List ℕ) × IsReadWhole call command bytes
-      × (IsOverLimit bytes → ⊥) × ((line : ℕ) → IsFaultAt bytes line → ⊥)
+  pub script : GivesScriptTo call command
   pub fits : IsTooSmall call command → ⊥
-  pub image : Image
-  pub found : IsFoundImage call command image
-  pub none : IsNotPool (shape_of call.old) 0 image
+  pub shown : ShowsNoPool call command
   pub quiet : NoneRose call
 
 -- Then it says so.
 abbrev pub SaysNoPool : TopCall → Type 0
 SaysNoPool call = (command : Command) → FindsNoPool call command → IsOrNoMemory call status.NotPool
 
--- Statuses that come exactly where their cause is there, in the order of checks.
+-- Refusals of a command that come wherever their cause is there, in the order of checks.
+pub record IsRefusedWhere (call : TopCall) (command : Command) : Type 0 where
+  pub limit : (bytes : List ℕ) → IsReadWhole call command bytes → IsOverLimit bytes
+      → IsOrNoMemory call status.Limit
+  pub fault : (bytes : List ℕ) (line : ℕ) → IsReadWhole call command bytes → IsFaultAt bytes line
+      → IsFaultOrNoMemory call line
+  pub too_small : IsTooSmall call command → IsOrNoMemory call status.TooSmall
+
+-- Statuses that come exactly where their cause is there.
 pub record ComesWhere (call : TopCall) : Type 0 where
   pub usage : IsNoCommand call → call.status ≡ status.Usage
-  pub limit : (given : ServedCommand) (bytes : List ℕ) → IsServedAs call.words given
-      → IsReadWhole call (command_of given) bytes
-      → IsOverLimit bytes → IsOrNoMemory call status.Limit
-  pub fault : (given : ServedCommand) (bytes : List ℕ) (line : ℕ) → IsServedAs call.words given
-      → IsReadWhole call (command_of given) bytes
-      → IsFaultAt bytes line → IsFaultOrNoMemory call line
-  pub too_small : (given : ServedCommand) → IsServedAs call.words given
-      → IsTooSmall call (command_of given)
-      → IsOrNoMemory call status.TooSmall
+  pub refused : (given : ServedCommand) → IsServedAs call.words given → IsRefusedWhere call (command_of given)
   pub no_pool : SaysNoPool call

@@ -22,7 +22,7 @@ use Rattle.core_open.specs.Opening.{CutsOpening, MayBegin}
 use Rattle.client_script.specs.Script.{Script, IsScript, asked_by}
 use Rattle.client_script.specs.Texts.{journal_text}
 use Rattle.schedule.specs.OfLines.{FollowsLines}
-use Rattle.schedule.specs.WholeRun.{HasRun, HasTakenTurns, RunKeeps, banks_of}
+use Rattle.schedule.specs.WholeRun.{HasRun, RunKeeps, banks_of}
 use Rattle.schedule.specs.declared.whole_run.Ran.{Ran}
 use Rattle.raidzx_top.specs.declared.order.Order.{Order}
 use Rattle.raidzx_top.specs.declared.order.Order.TheVariants.{AsTheyCome, AsListed}
@@ -35,12 +35,12 @@ use Rattle.raidzx_top.specs.declared.words.NewPool.{NewPool}
 use Rattle.raidzx_top.specs.declared.words.ServedCommand.TheVariants as served
 use Rattle.raidzx_top.specs.Spelled.{IsServedAs, command_of}
 use Rattle.raidzx_top.specs.Call.{TopCall, HoldsImage, IsCarriedOut, IsQuiet, shape_of}
-use Rattle.raidzx_top.specs.Order.{IsCarriedBy, IsInTurn, listed_by, served_by}
+use Rattle.raidzx_top.specs.Order.{served_by}
 use Rattle.raidzx_top.specs.Causes.{NoneRose, IsTooSmall, MeetsLimit, IsNoCommand, IsCaused, ComesWhere, most_turns}
-use Rattle.raidzx_top.specs.Reopened.{BearsCut, SurvivesOpening, SurvivesStops}
+use Rattle.raidzx_top.specs.Reopened.{BearsCut, MayAdd, SurvivesOpening, SurvivesStops}
 use Rattle.raidzx_top.specs.RunJournal.{NoneWantsMemory}
 use Rattle.raidzx_top.specs.RunText.{IsWritten, TextIsRight, create_text, status_line}
-use Rattle.raidzx_top.specs.Running.{IsStatusOf, StoppedFor, after_fault}
+use Rattle.raidzx_top.specs.Running.{CarriedCalls, IsStatusOf, StoppedFor, TurnsAreTold, after_fault}
 use Rattle.raidzx_top.specs.StatusCall.{StatusIsTold}
 
 -- a setting in which a new pool stands: its devices, and failures of no more of them than its parity
@@ -70,20 +70,19 @@ pub record CreatePromises (call : TopCall) (parity width id : ℕ) : Type 0 wher
       → HasNoOtherPage setting (first_kept id parity width call.old.sectors ∷ []) image)
       → MayBegin setting (first_kept id parity width call.old.sectors) [] call.new
 
--- what a call of `create` promises
-pub record CreateIsKept (call : TopCall) : Type 0 where
-  pub keeps : (made : NewPool) → IsServedAs call.words (served.Create made) → IsCarriedOut call
-      → Tells call.old
-      → CreatePromises call made.parity made.width made.id
-  pub text : (made : NewPool) → IsServedAs call.words (served.Create made) → IsCarriedOut call
+-- what a call promises that asks for this pool
+pub record PoolIsKept (call : TopCall) (made : NewPool) : Type 0 where
+  pub keeps : IsCarriedOut call → Tells call.old → CreatePromises call made.parity made.width made.id
+  pub text : IsCarriedOut call
       → TextIsRight call (create_text made.parity made.width made.id (rows_for call.old.sectors))
   -- Devices from the width on are left alone.
-  pub others : (made : NewPool) → IsServedAs call.words (served.Create made)
-      → TouchesOnly (IsOnBelow made.width) call.old call.new
-  pub quiet : (made : NewPool) → IsServedAs call.words (served.Create made)
-      → IsQuiet call
-  pub untouched : (call.status ≡ status.Usage) ⊎ (call.status ≡ status.TooSmall)
-      → call.new ≡ call.old
+  pub others : TouchesOnly (IsOnBelow made.width) call.old call.new
+  pub quiet : IsQuiet call
+
+-- what a call of `create` promises
+pub record CreateIsKept (call : TopCall) : Type 0 where
+  pub created : (made : NewPool) → IsServedAs call.words (served.Create made) → PoolIsKept call made
+  pub untouched : (call.status ≡ status.Usage) ⊎ (call.status ≡ status.TooSmall) → call.new ≡ call.old
 
 -- The status of a script that was carried out is the first of want of memory, a limit, a failed sink and too
 -- many failed devices that it met; else it is Done. The text ends with the line that it has where no sink
@@ -96,38 +95,36 @@ pub record StatusIsRight (call : TopCall) (ran : Ran) : Type 0 where
   pub written : (held : List ℕ) → call.sink.bytes ≡ Some held
       → IsWritten call held (journal_text call.journal ++ status_line line)
 
--- what a run that opened its pool promises, or a replay
-pub record RunPromises (order : Order) (call : TopCall) : Type 0 where
-  -- The script that was read,
+-- The script that was read, how its calls ended, and what was carried out of it.
+pub record CarriesScript (order : Order) (call : TopCall) : Type 0 where
   pub script : Script
   pub script_is : (bytes : List ℕ) → call.source.bytes ≡ Some bytes → IsScript bytes script
-  -- and how its calls ended.
   pub ran : Ran
-  -- What was carried out are its calls, and in a run those of the client that widens the pool too: where a device is to
-  -- be attached, or where an expansion ran as the pool was opened. The journal is legal for that, and what it tells is
-  -- kept, at each moment and in the end.
-  pub carried : Script
-  pub run : HasRun carried call.old call.new call.journal ran.out
-  pub carried_is : IsCarriedBy order script run.opened carried
-  -- As many turns are told as were taken. Of a replay each was that of the client whose turn it was by the order that the
-  -- script lists, of a run with an only client by the order of the lines; where a run has more, by none.
-  pub turns : call.turns ≡ ran.turns
-  pub counted : ran.turns ≡ length run.passed
-  pub taken : IsInTurn order script run.opened
-      → HasTakenTurns carried (listed_by order script) run ran
+  pub calls : CarriedCalls order script call.old call.new call.journal ran.out
+
+-- In which order that was done.
+pub record TellsTurns (order : Order) (call : TopCall) (did : CarriesScript order call) : Type 0 where
+  pub turns : call.turns ≡ did.ran.turns
+  pub are_told : TurnsAreTold order did.script call.old call.new call.journal did.ran did.calls
   -- The answers of an only client stand in the order of the lines, each call whole before the next.
-  pub lines : carried.clients ≤ 1 → FollowsLines carried call.journal
-  -- That binds however many devices fail: those that have to be borne are no more than there are parities, and what was
-  -- answered is right for whoever can bear them.
-  pub binds : (setting : Setting) (first : Kept) (later : List Kept) (failed : ℕ) → MayBegin setting first later call.old
-      → CanBear setting first call.old run.silent run.borne failed
+  pub lines : did.calls.carried.clients ≤ 1 → FollowsLines did.calls.carried call.journal
+
+-- What was answered is kept, whatever fails and whenever it stops.
+pub record KeepsAnswers (call : TopCall) (carried : Script) (out : ℕ)
+    (run : HasRun carried call.old call.new call.journal out) : Type 0 where
+  -- However many devices fail, those that have to be borne are no more than there are parities, and what was answered
+  -- is right for whoever can bear them.
+  pub binds : (setting : Setting) (first : Kept) (later : List Kept) (failed : ℕ)
+      → MayBegin setting first later call.old → CanBear setting first call.old run.silent run.borne failed
       → RunKeeps carried (setting_with setting failed) first later call.old call.new call.journal run.parity run.silent
       (banks_of run)
   -- What a stop leaves of it, at any moment, the next run or replay reads back.
   pub survives : (setting : Setting) (first : Kept) (later : List Kept) → MayBegin setting first later call.old
       → IsWithinBelow first.uber.reflow.to run.silent setting.failed → IsWithin run.borne setting.failed
       → SurvivesStops setting first later carried call.old call.new call.journal (banks_of run)
-  -- Each call is answered, unless memory was wanting, and then the status tells so, or the turns were used up.
+
+-- Each call is answered, unless there was no memory, and then the status tells so, or the turns were used up.
+pub record AnswersEach (call : TopCall) (carried : Script) (ran : Ran) : Type 0 where
   pub complete : call.status ≢ status.NoMemory → (StoppedFor ran trouble.Limit → ⊥)
       → IsComplete (asked_by carried) call.journal
   pub memory : call.status ≢ status.NoMemory → NoneWantsMemory call.journal
@@ -135,10 +132,16 @@ pub record RunPromises (order : Order) (call : TopCall) : Type 0 where
   -- A call that tells of too many failed devices lists devices that are out or have failed.
   pub too_many : (index listed : ℕ) (entry : Entry) → CallAt call.journal index entry
       → entry.answer ≡ answer.TooManyFailed listed
-      → (image : Image) → HoldsImage call.old image
-      → AreTooMany call.old call.new image listed
+      → (image : Image) → HoldsImage call.old image → AreTooMany call.old call.new image listed
+
+-- what a run that opened its pool promises, or a replay
+pub record RunPromises (order : Order) (call : TopCall) : Type 0 where
+  pub did : CarriesScript order call
+  pub in_turn : TellsTurns order call did
+  pub keeps : KeepsAnswers call did.calls.carried did.ran.out did.calls.run
+  pub answers : AnswersEach call did.calls.carried did.ran
   pub text : TextIsRight call (journal_text call.journal)
-  pub status_is : StatusIsRight call ran
+  pub status_is : StatusIsRight call did.ran
 
 -- what a run or a replay that opened no pool leaves: what was there, but for counts of faults; or an opening
 -- that was cut short, for want of memory or as too many devices failed
@@ -164,20 +167,27 @@ pub record RunIsKept (order : Order) (call : TopCall) : Type 0 where
   pub carried_out : IsServedAs call.words (served_by order) → IsCarriedOut call
       → call.journal ≢ []
 
--- Nothing was in the way of a run or a replay: the source told a script, the bank keeps groups of which none is
--- too near the greatest number, no device is out, and nothing failed.
-pub record RunsUnhindered (order : Order) (call : TopCall) : Type 0 where
-  pub served : IsServedAs call.words (served_by order)
+-- The source told a script, and didn't fail.
+pub record GivesScript (call : TopCall) : Type 0 where
   pub bytes : List ℕ
   pub told : call.source.bytes ≡ Some bytes
   pub script : Script
   pub script_is : IsScript bytes script
+  pub source : FaultCounted call.source.faults call.source_after.faults → ⊥
+
+-- The bank keeps groups of which none is too near the greatest number, no device is out, and none failed.
+pub record KeepsUnhindered (call : TopCall) : Type 0 where
   pub setting : Setting
   pub first : Kept
   pub later : List Kept
   pub may : MayBegin setting first later call.old
   pub unhindered : IsUnhindered setting first later call.old call.new
-  pub source : FaultCounted call.source.faults call.source_after.faults → ⊥
+
+-- Nothing was in the way of a run or a replay.
+pub record RunsUnhindered (order : Order) (call : TopCall) : Type 0 where
+  pub served : IsServedAs call.words (served_by order)
+  pub read : GivesScript call
+  pub bank : KeepsUnhindered call
   pub sink : FaultCounted call.sink.faults call.sink_after.faults → ⊥
 
 -- An answer that smooth runs have: what was asked for, or a refusal with a cause of its own.
@@ -189,7 +199,7 @@ IsSmoothAnswer (answer.Paused device) = ⊥
 IsSmoothAnswer (answer.TooManyFailed out) = ⊥
 IsSmoothAnswer other = ⊤
 
--- Then the status is Done and each answer is smooth; or memory was wanting, or a group met the greatest
+-- Then the status is Done and each answer is smooth; or there was no memory, or a group met the greatest
 -- number, or the turns were used up.
 pub record CompletesAll (order : Order) (call : TopCall) : Type 0 where
   pub status_is : (call.status ≡ status.Done) ⊎ ((call.status ≡ status.NoMemory)
@@ -208,25 +218,36 @@ pub record CreateCompletes (call : TopCall) : Type 0 where
 abbrev pub RunCompletes : Order → TopCall → Type 0
 RunCompletes order call = RunsUnhindered order call → CompletesAll order call
 
--- what every call promises
-pub record CallPromises (call : TopCall) : Type 0 where
-  -- each status has its cause,
+-- Each status has its cause, and refusals come wherever their cause is there.
+pub record ExplainsStatus (call : TopCall) : Type 0 where
   pub cause : IsCaused call
-  -- and refusals come wherever their cause is there
   pub comes : ComesWhere call
-  -- a call that does nothing says so
+
+-- A call that does nothing says so, words that are no command do nothing, and no turn is taken where no pool was
+-- opened.
+pub record RefusesCleanly (call : TopCall) : Type 0 where
   pub refused : call.journal ≡ [] → (IsCarriedOut call → ⊥) → TextIsRight call []
-  -- words that are no command do nothing
   pub quiet : IsNoCommand call → IsQuiet call
-  -- no turn is taken where no pool was opened
   pub turns : call.journal ≡ [] → call.turns ≡ 0
-  -- a new pool is kept, and what was written is the text
+
+-- A new pool is kept; what a run answers is right and kept, and so it is with a replay; a `status` tells what the
+-- devices show, and changes nothing. What was written is the text.
+pub record DoesCommand (call : TopCall) : Type 0 where
   pub create : CreateIsKept call
-  -- what a run answers is right and kept, and what was written is the text; so it is with a replay
   pub run : (attaches : Bool) → RunIsKept (AsTheyCome attaches) call
   pub replay : RunIsKept AsListed call
-  -- a `status` tells what the devices show, and changes nothing
   pub told : StatusIsTold call
-  -- what has nothing in its way is carried out
+
+-- What has nothing in its way is carried out.
+pub record CompletesCommand (call : TopCall) : Type 0 where
   pub complete : CreateCompletes call
   pub completes : (order : Order) → RunCompletes order call
+
+-- what every call promises
+pub record CallPromises (call : TopCall) : Type 0 where
+  pub explains : ExplainsStatus call
+  pub refuses : RefusesCleanly call
+  pub commands : DoesCommand call
+  pub unhindered : CompletesCommand call
+  -- the next bank may have further devices
+  pub may_be_added : MayAdd call.new

@@ -50,8 +50,8 @@ pub record HasRead (source source_after : Stream) (script : Script) : Type 0 whe
   pub right : (bytes : List ℕ) (line : ℕ) → IsWell source source_after bytes
       → IsFaultAt bytes line → ⊥
 
--- Why there is no script. The first line that breaks a rule is told, and where none does memory was
--- wanting; it may be wanting in place of each.
+-- Why there is no script. The first line that breaks a rule is told, and where none does there was no
+-- memory; that may be told in place of each.
 pub record IsUnread (source source_after : Stream) (why : ReadRefused) : Type 0 where
   pub cause : IsNotReadFor source.bytes source.faults source_after.faults why
   pub limit : (bytes : List ℕ) → IsWell source source_after bytes → IsOverLimit bytes
@@ -81,26 +81,37 @@ pub data IsRefused (source source_after : Stream) (old new : Disk) (given : Stat
       → IsUnopened old new why → given ≡ why_status why
       → IsRefused source source_after old new given
 
--- Calls were left unanswered for this trouble: room for the next answer was wanting, or no more turns could be
+-- Calls were left unanswered for this trouble: there was no room for the next answer, or no more turns could be
 -- counted.
 abbrev pub StoppedFor : Ran → Trouble → Type 0
 StoppedFor ran trouble.NoMemory = ran.ended ≡ ended.NoMemory
 StoppedFor ran trouble.Limit = ran.ended ≡ ended.Limit
 StoppedFor ran trouble.TooManyFailed = ⊥
 
+-- What was carried out of a script in this order: its calls, and in a run those of the client that widens the pool
+-- too, where a device is to be attached, or where an expansion ran as the pool was opened. The journal is legal for
+-- that, and what it tells is kept, at each moment and in the end.
+pub record CarriedCalls (order : Order) (script : Script) (old new : Disk) (items : List Item) (out : ℕ) : Type 0 where
+  pub carried : Script
+  pub run : HasRun carried old new items out
+  pub carried_is : IsCarriedBy order script run.opened carried
+
+-- As many turns are told as were taken. Of a replay each was that of the client whose turn it was by the order that the
+-- script lists, of a run with an only client by the order of the lines; where a run has more, by none.
+pub record TurnsAreTold (order : Order) (script : Script) (old new : Disk) (items : List Item) (ran : Ran)
+    (calls : CarriedCalls order script old new items ran.out) : Type 0 where
+  pub counted : ran.turns ≡ length calls.run.passed
+  pub taken : IsInTurn order script calls.run.opened
+      → HasTakenTurns calls.carried (listed_by order script) calls.run ran
+
 -- A script was carried out on the pool in this order, in as many turns as are told. Each call is answered, but where
--- memory was wanting or no more turns could be counted.
-pub record HasCarried (order : Order) (script : Script) (old new : Disk) (items : List Item) (ran : Ran) : Type 0
-  where
-    pub carried : Script
-    pub run : HasRun carried old new items ran.out
-    pub carried_is : IsCarriedBy order script run.opened carried
-    pub counted : ran.turns ≡ length run.passed
-    pub taken : IsInTurn order script run.opened
-        → HasTakenTurns carried (listed_by order script) run ran
-    pub complete : (StoppedFor ran trouble.NoMemory → ⊥) → (StoppedFor ran trouble.Limit → ⊥)
-        → IsComplete (asked_by carried) items
-    pub used_up : StoppedFor ran trouble.Limit → most_turns ≤ ran.turns
+-- there was no memory or no more turns could be counted.
+pub record HasCarried (order : Order) (script : Script) (old new : Disk) (items : List Item) (ran : Ran) : Type 0 where
+  pub calls : CarriedCalls order script old new items ran.out
+  pub turns : TurnsAreTold order script old new items ran calls
+  pub complete : (StoppedFor ran trouble.NoMemory → ⊥) → (StoppedFor ran trouble.Limit → ⊥)
+      → IsComplete (asked_by calls.carried) items
+  pub used_up : StoppedFor ran trouble.Limit → most_turns ≤ ran.turns
 
 -- A script was read, or there was none, or no room for the journal of its run.
 abbrev pub EndsScript : Stream → Stream → Result Script Status → Type 0

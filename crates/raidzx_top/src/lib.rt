@@ -20,6 +20,6 @@ mod words;
 pub use images::{Images, MOST_SECTORS, image_words};
 pub use outcome::Outcome;
 pub use report::write_status;
-pub use status::Status;
+pub use status::{Status, TOO_MANY_FAILED};
 pub use top::raidzx;
 pub use words::{NewPool, ServedCommand, read_command};

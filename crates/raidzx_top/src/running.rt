@@ -12,7 +12,7 @@ use crate::status::Status;
 use bank_trait::{Bank, Gate, Sink, Source};
 use client_script::{Script, read_script};
 use core_state::{Answer, Item, Journal};
-use pool_live::run_pool_beside;
+use pool_live::{Host, run_pool_beside};
 use schedule::{Ended, PoolRun, Ran, run_pool};
 use std::alloc::Global;
 use std::sync::Wait;
@@ -103,13 +103,11 @@ fn read<S: Source>(alloc: Global, source: &mut S, journal: &mut Journal) -> Resu
 }
 
 /// Carries a script out on the pool that the devices show.
-fn carry_script<R: Threads + Wait + Sync, B: Bank + Send, G: Gate + Sync>(
-    rt: &R,
-    alloc: Global,
+fn carry_script<R: Threads + Wait + Sync, G: Gate + Sync, B: Bank + Send>(
+    host: &Host<R, G>,
     order: Order,
     bank: B,
     script: Script,
-    gate: &G,
     journal: Journal,
 ) -> PoolRun<B>
     requires empty { journal.items ≡ [] }
@@ -123,10 +121,10 @@ fn carry_script<R: Threads + Wait + Sync, B: Bank + Send, G: Gate + Sync>(
     ensures unopened { IfErr result.ran (IsUnopened (B.disk bank) (B.disk result.bank)) }
 {
     match order {
-        Order::AsTheyCome { attaches } => {
-            run_pool_beside(rt, alloc, bank, script, attaches, gate, journal)
-        }
-        Order::AsListed => { run_pool(alloc, bank, &script, script.order(), journal) }
+        Order::AsTheyCome { attaches } => run_pool_beside(
+            host.rt, host.alloc, bank, script, attaches, host.gate, journal,
+        ),
+        Order::AsListed => run_pool(host.alloc, bank, &script, script.order(), journal),
     }
 }
 
@@ -146,14 +144,12 @@ fn tell<K: Sink>(out: &mut K, journal: &Journal, status: Status) -> Status
 
 /// Reads a script from a source, opens the pool that the devices show, and carries the script out on it in
 /// this order. Writes what was answered, and the line of the status.
-pub fn run<R: Threads + Wait + Sync, B: Bank + Send, S: Source, K: Sink, G: Gate + Sync>(
-    rt: &R,
-    alloc: Global,
+pub fn run<R: Threads + Wait + Sync, G: Gate + Sync, B: Bank + Send, S: Source, K: Sink>(
+    host: &Host<R, G>,
     order: Order,
     bank: B,
     source: &mut S,
     out: &mut K,
-    gate: &G,
 ) -> Outcome<B>
     ensures { EndsRun order (stream_of (S.left source.old) (S.faults source.old))
         (stream_of (S.left source.new) (S.faults source.new))
@@ -161,14 +157,12 @@ pub fn run<R: Threads + Wait + Sync, B: Bank + Send, S: Source, K: Sink, G: Gate
         (stream_of (K.held out.new) (K.faults out.new))
         (B.disk bank) (B.disk result.bank) result.journal.items result.status result.turns }
 {
-    let mut journal = Journal::new(alloc);
-    let script = match read(alloc, source, &mut journal) {
+    let mut journal = Journal::new(host.alloc);
+    let script = match read(host.alloc, source, &mut journal) {
         Ok(script) => script,
-        Err(status) => return Outcome::without_turns(alloc, refuse(out, status), bank),
+        Err(status) => return Outcome::without_turns(host.alloc, refuse(out, status), bank),
     };
-    let PoolRun { ran, bank, journal } = carry_script(
-        rt, alloc, order, bank, script, gate, journal,
-    );
+    let PoolRun { ran, bank, journal } = carry_script(host, order, bank, script, journal);
     match ran {
         Ok(ran) => {
             let status = status_of(&ran, &journal);
@@ -179,6 +173,6 @@ pub fn run<R: Threads + Wait + Sync, B: Bank + Send, S: Source, K: Sink, G: Gate
                 turns: ran.turns,
             }
         }
-        Err(why) => Outcome::without_turns(alloc, refuse(out, Status::from(why)), bank),
+        Err(why) => Outcome::without_turns(host.alloc, refuse(out, Status::from(why)), bank),
     }
 }

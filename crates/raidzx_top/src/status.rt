@@ -8,6 +8,9 @@ use core_open::OpenWhy;
 use std::alloc::AllocError;
 use uberblock_ring::DeviceSet;
 
+/// The exit status of `Status::TooManyFailed`, whichever the devices are.
+pub const TOO_MANY_FAILED: u8 = 4;
+
 /// The numbers of the exit statuses are 0 to 9 in this order.
 #[derive(Clone, Copy, Debug, PartialEq, Eq)]
 pub enum Status {
@@ -36,7 +39,7 @@ impl Status {
             Status::Usage => 1,
             Status::ScriptFault { line: _, why: _ } => 2,
             Status::NotPool => 3,
-            Status::TooManyFailed { out: _ } => 4,
+            Status::TooManyFailed { out: _ } => TOO_MANY_FAILED,
             Status::TooSmall => 5,
             Status::SourceFault => 6,
             Status::SinkFault => 7,

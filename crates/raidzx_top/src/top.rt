@@ -17,6 +17,7 @@ use crate::status::Status;
 use crate::words::{NewPool, ServedCommand, read_command};
 use bank_trait::{Bank, Gate, Sink, Source};
 use core_open::data_rows;
+use pool_live::Host;
 use std::alloc::Global;
 use std::sync::Wait;
 use std::thread::Threads;
@@ -37,14 +38,12 @@ fn create_pool<B: Bank, K: Sink>(bank: &mut B, made: &NewPool, out: &mut K) -> S
     }
 }
 
-fn carry_out<R: Threads + Wait + Sync, B: Bank + Send, S: Source, K: Sink, G: Gate + Sync>(
-    rt: &R,
-    alloc: Global,
+fn carry_out<R: Threads + Wait + Sync, G: Gate + Sync, B: Bank + Send, S: Source, K: Sink>(
+    host: &Host<R, G>,
     words: &[String],
     mut bank: B,
     script: &mut S,
     out: &mut K,
-    gate: &G,
 ) -> Outcome<B>
     ensures { Ends (call_of (map string_bytes words.now)
         (B.disk bank) (B.disk result.bank)
@@ -55,19 +54,18 @@ fn carry_out<R: Threads + Wait + Sync, B: Bank + Send, S: Source, K: Sink, G: Ga
         result.status result.journal.items result.turns) }
 {
     match read_command(words) {
-        None => Outcome::without_turns(alloc, refuse(out, Status::Usage), bank),
+        None => Outcome::without_turns(host.alloc, refuse(out, Status::Usage), bank),
         Some(ServedCommand::Create(made)) => {
             let status = create_pool(&mut bank, &made, out);
-            Outcome::without_turns(alloc, status, bank)
+            Outcome::without_turns(host.alloc, status, bank)
         }
         Some(ServedCommand::Run { attaches }) => {
-            let order = Order::AsTheyCome { attaches };
-            run(rt, alloc, order, bank, script, out, gate)
+            run(host, Order::AsTheyCome { attaches }, bank, script, out)
         }
-        Some(ServedCommand::Replay) => run(rt, alloc, Order::AsListed, bank, script, out, gate),
+        Some(ServedCommand::Replay) => run(host, Order::AsListed, bank, script, out),
         Some(ServedCommand::Status) => {
-            let status = tell_status(alloc, &mut bank, out);
-            Outcome::without_turns(alloc, status, bank)
+            let status = tell_status(host.alloc, &mut bank, out);
+            Outcome::without_turns(host.alloc, status, bank)
         }
     }
 }
@@ -79,8 +77,8 @@ fn laws_hold<B: Bank>(_bank: &B)
 
 /// Carries out the command that the words spell, of which the first is not looked at. The script is
 /// read from a source; every line goes to a sink, those of faults too. The clients of a run have threads of their own,
-/// where there are several; the one that widens the pool is one of them. They pass the gate between their turns, and what
-/// it does is in no promise.
+/// where there are several; the one that widens the pool is one of them. They pass the gate between their turns, and
+/// what it does is in no promise.
 pub fn raidzx<R: Threads + Wait + Sync, B: Bank + Send, S: Source, K: Sink, G: Gate + Sync>(
     rt: &R,
     alloc: Global,
@@ -99,5 +97,5 @@ pub fn raidzx<R: Threads + Wait + Sync, B: Bank + Send, S: Source, K: Sink, G: G
         result.status result.journal.items result.turns) }
 {
     laws_hold(&bank);
-    carry_out(rt, alloc, words, bank, script, out, gate)
+    carry_out(&Host { rt, alloc, gate }, words, bank, script, out)
 }

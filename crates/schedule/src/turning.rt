@@ -115,7 +115,7 @@ fn fill_in(alloc: Global, call: &ScriptCall, run: &mut PutRun, made: Option<Box<
     requires made { IfSome made (λ made. IsMadeUpOf (fill_bytes call.now.fill) made.value) }
     ensures fills { result ≡ true → IsFilledIn call.now run.old run.new }
     ensures filled { result ≡ true → (filled : FilledOf) × (run.new.filled ≡ Some filled) }
-    ensures wanting { result ≡ false → (run.new ≡ run.old) × (run.old.filled ≡ None) }
+    ensures no_memory { result ≡ false → (run.new ≡ run.old) × (run.old.filled ≡ None) }
 {
     if run.is_filled() {
         return true;

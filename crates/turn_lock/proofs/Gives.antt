@@ -8,8 +8,9 @@ use Rattle.std.proofs.lemmas.List.{append-nil}
 use Rattle.std.proofs.lemmas.List.Elements.{Contains-append_cases}
 use Rattle.atomic_table.proofs.Lists.{at_set}
 use Rattle.atomic_table.specs.Table.{Me, Act, gives, Valid, stepped, Allows, Final, Seen, carried_after}
-use Rattle.turn_lock.specs.Turn.{TurnState, at_home, away, over, Rule, Gave, FitsHistory, Family, IsNamedOnce, itself}
-use Rattle.turn_lock.specs.Turn.{telling_any, gave, seen_of, name_of, told_after, told, IsLive, ending, EndedAll}
+use Rattle.turn_lock.specs.Turn.{TurnState, at_home, away, over, Rule, Releases, FitsHistory, Family, IsNamedOnce}
+use Rattle.turn_lock.specs.Turn.{itself}
+use Rattle.turn_lock.specs.Turn.{telling_any, gave, seen_of, name_of, told_after, told, IsLive, ending, Closes}
 use Rattle.turn_lock.specs.declared.view.Event.{Event}
 use Rattle.turn_lock.specs.declared.view.Member.{Member}
 use Rattle.turn_lock.specs.declared.view.View.{View}
@@ -86,7 +87,7 @@ module _ {T E : Type 0} (stood : T → List (Event E) → Type 0) where
   pub give_allows : (id next : ℕ) (v : View E) (m : Member E) (rest : List (Member E)) → v.members ≡ m ∷ rest
       → (y : T) (entry : OptionOf E) → v.holds ≡ true → stood y (told_after m.name m.seen entry)
       → next ≡ 2 * length (told_after m.name m.seen entry) → length (told_after m.name m.seen entry) ≤ 2 ^ 62
-      → Allows (Rule stood) 1 id (v, (0, y) ∷ []) 0 (λ n. next) (λ n. Gave {T = T} entry (v, (0, y) ∷ []))
+      → Allows (Rule stood) 1 id (v, (0, y) ∷ []) 0 (λ n. next) (λ n. Releases {T = T} entry (v, (0, y) ∷ []))
   give_allows id next v m rest live y entry held stands next_is few s rule slots at fits = by_turn rule.turned
     where
       now : View E
@@ -95,7 +96,7 @@ module _ {T E : Type 0} (stood : T → List (Event E) → Type 0) where
       by_turn : TurnState stood s rule.history
           → (w : View E) × (a : Act T) × Valid s.homes ((0, y) ∷ []) a
           × Rule stood (stepped s 0 next id ((0, y) ∷ []) w a)
-          × Gave {T = T} entry (v, (0, y) ∷ []) (w, carried_after ((0, y) ∷ []) a)
+          × Releases {T = T} entry (v, (0, y) ∷ []) (w, carried_after ((0, y) ∷ []) a)
       by_turn (at_home state home stood_there count none_holds) = absurd (not_both v.holds (none_holds id v at) held)
       by_turn (over state home stood_there odd none_holds) = absurd (not_both v.holds (none_holds id v at) held)
       by_turn (away holder u home odd held_by u_holds u_seen alone) = (now, gives, tt, rule_after, (refl, refl))
@@ -135,18 +136,18 @@ module _ {T E : Type 0} (stood : T → List (Event E) → Type 0) where
       → (y : T) (entry : OptionOf E) → slots ≡ 1 → me.0.holds ≡ true → me.1 ≡ (0, y) ∷ []
       → stood y (told_after m.name m.seen entry) → next ≡ 2 * length (told_after m.name m.seen entry)
       → length (told_after m.name m.seen entry) ≤ 2 ^ 62
-      → Allows (Rule stood) slots id me 0 (λ n. next) (λ n. Gave {T = T} entry me)
+      → Allows (Rule stood) slots id me 0 (λ n. next) (λ n. Releases {T = T} entry me)
   give_any slots id next me m rest live y entry one held slot stands next_is few =
       let pair : ◌≡◌ {A = Me T (View E)} (me.0, (0, y) ∷ []) me = let back = sym slot in λ i. (me.0, back i) in
-      subst (λ (k : ℕ). Allows (Rule stood) k id me 0 (λ n. next) (λ n. Gave {T = T} entry me)) (sym one)
-      (subst (λ (m : Me T (View E)). Allows (Rule stood) 1 id m 0 (λ n. next) (λ n. Gave {T = T} entry m)) pair
+      subst (λ (k : ℕ). Allows (Rule stood) k id me 0 (λ n. next) (λ n. Releases {T = T} entry me)) (sym one)
+      (subst (λ (m : Me T (View E)). Allows (Rule stood) 1 id m 0 (λ n. next) (λ n. Releases {T = T} entry m)) pair
       (give_allows id next me.0 m rest live y entry held stands next_is few))
 
   -- The same, where the history is told by the view.
   pub end_any : (slots id next : ℕ) (me : Me T (View E)) → IsLive me.0 → (y : T) (entry : OptionOf E) → slots ≡ 1
       → me.0.holds ≡ true → me.1 ≡ (0, y) ∷ [] → stood y (told me.0 entry) → next ≡ 2 * length (told me.0 entry)
       → length (told me.0 entry) ≤ 2 ^ 62
-      → Allows (Rule stood) slots id me 0 (λ n. next) (λ n. Gave {T = T} entry me)
+      → Allows (Rule stood) slots id me 0 (λ n. next) (λ n. Releases {T = T} entry me)
   end_any slots id next me live y entry one held slot stands next_is few =
       let is : told me.0 entry ≡ told_after live.0.name live.0.seen entry = ap (λ (ms : List (Member E)). told_after (name_of ms) (seen_of ms) entry) live.2 in
       give_any slots id next me live.0 live.1 live.2 y entry one held slot (subst (stood y) is stands)
@@ -155,7 +156,7 @@ module _ {T E : Type 0} (stood : T → List (Event E) → Type 0) where
   -- The step that ends all turns.
   pub last_allows : (id next : ℕ) (v : View E) (y : T) → v.holds ≡ true → stood y (seen_of v.members)
       → next ≡ 2 * length (seen_of v.members) + 1
-      → Allows (Rule stood) 1 id (v, (0, y) ∷ []) 0 (λ n. next) (λ n. EndedAll {T = T} (v, (0, y) ∷ []))
+      → Allows (Rule stood) 1 id (v, (0, y) ∷ []) 0 (λ n. next) (λ n. Closes {T = T} (v, (0, y) ∷ []))
   last_allows id next v y held stands next_is s rule slots at fits = by_turn rule.turned
     where
       now : View E
@@ -164,7 +165,7 @@ module _ {T E : Type 0} (stood : T → List (Event E) → Type 0) where
       by_turn : TurnState stood s rule.history
           → (w : View E) × (a : Act T) × Valid s.homes ((0, y) ∷ []) a
           × Rule stood (stepped s 0 next id ((0, y) ∷ []) w a)
-          × EndedAll {T = T} (v, (0, y) ∷ []) (w, carried_after ((0, y) ∷ []) a)
+          × Closes {T = T} (v, (0, y) ∷ []) (w, carried_after ((0, y) ∷ []) a)
       by_turn (at_home state home stood_there count none_holds) = absurd (not_both v.holds (none_holds id v at) held)
       by_turn (over state home stood_there odd none_holds) = absurd (not_both v.holds (none_holds id v at) held)
       by_turn (away holder u home odd held_by u_holds u_seen alone) = (now, gives, tt, rule_after, (refl, refl))
@@ -206,11 +207,11 @@ module _ {T E : Type 0} (stood : T → List (Event E) → Type 0) where
 
   pub last_any : (slots id next : ℕ) (me : Me T (View E)) (y : T) → slots ≡ 1 → me.0.holds ≡ true → me.1 ≡ (0, y) ∷ []
       → stood y (seen_of me.0.members) → next ≡ 2 * length (seen_of me.0.members) + 1
-      → Allows (Rule stood) slots id me 0 (λ n. next) (λ n. EndedAll {T = T} me)
+      → Allows (Rule stood) slots id me 0 (λ n. next) (λ n. Closes {T = T} me)
   last_any slots id next me y one held slot stands next_is =
       let pair : ◌≡◌ {A = Me T (View E)} (me.0, (0, y) ∷ []) me = let back = sym slot in λ i. (me.0, back i) in
-      subst (λ (k : ℕ). Allows (Rule stood) k id me 0 (λ n. next) (λ n. EndedAll {T = T} me)) (sym one)
-      (subst (λ (m : Me T (View E)). Allows (Rule stood) 1 id m 0 (λ n. next) (λ n. EndedAll {T = T} m)) pair
+      subst (λ (k : ℕ). Allows (Rule stood) k id me 0 (λ n. next) (λ n. Closes {T = T} me)) (sym one)
+      (subst (λ (m : Me T (View E)). Allows (Rule stood) 1 id m 0 (λ n. next) (λ n. Closes {T = T} m)) pair
       (last_allows id next me.0 y held stands next_is))
 
   -- What the last state has in the slot stands for what the seat has seen.

@@ -5,7 +5,8 @@ use Rattle.std.specs.Prelude.{Option as OptionOf, Contains}
 use Rattle.std.proofs.lemmas.List.Elements.{Contains-append_cases}
 use Rattle.atomic_table.specs.Table.{Me, rest}
 use Rattle.atomic_table.specs.Seated.{TableId}
-use Rattle.turn_lock.specs.Turn.{IsLive, StandsFor, TookTurn, TookLast, FoundFull, Gave, EndedAll, KnowsHistory, AreAll}
+use Rattle.turn_lock.specs.Turn.{IsLive, StandsFor, HasAcquired, HasAcquiredLast, ObservesFull, Releases, Closes}
+use Rattle.turn_lock.specs.Turn.{KnowsHistory, AreAll}
 use Rattle.turn_lock.specs.Turn.{entries, seen_of, itself, seeing, telling, telling_any, parting, took, gave}
 use Rattle.turn_lock.specs.Turn.{kept_at_split, joined, longer}
 use Rattle.turn_lock.specs.Seats.{Sitting, sitting, first_of, others_of, everyone, IsSeat, Ended}
@@ -120,7 +121,7 @@ module _ {S E : Type 0} where
       })
 
   pub seat_gave : (me laid after : Me (OptionOf S) (View E)) (events : ℕ) (state : OptionOf S) (entry : E) → IsSeat {S = S} me events
-      → me.0.holds ≡ true → laid ≡ (me.0, (0, state) ∷ []) → Gave (Some entry) laid after → IsSeat {S = S} after (events + 1)
+      → me.0.holds ≡ true → laid ≡ (me.0, (0, state) ∷ []) → Releases (Some entry) laid after → IsSeat {S = S} after (events + 1)
   seat_gave me laid after events state entry seat holds is given =
       let m = seat.live.0 in
       let few = (seat.held holds).1 in
@@ -144,7 +145,7 @@ module _ {S E : Type 0} where
       })
 
   pub seat_took : (stood : OptionOf S → List (Event E) → Type 0) (me found after : Me (OptionOf S) (View E)) (events : ℕ) → IsLive me.0
-      → TookTurn stood events me found → after ≡ (found.0, (0, None) ∷ []) → IsSeat {S = S} after events
+      → HasAcquired stood events me found → after ≡ (found.0, (0, None) ∷ []) → IsSeat {S = S} after events
   seat_took stood me found after events live taken is =
       let h = taken.0 in
       let v : found.0 ≡ took h me.0 = ap (λ (x : Me (OptionOf S) (View E)). x.0) taken.2 in
@@ -164,7 +165,7 @@ module _ {S E : Type 0} where
       })
 
   pub seat_full : (me after : Me (OptionOf S) (View E)) (events : ℕ) → IsSeat {S = S} me events → me.0.holds ≡ false
-      → FoundFull me after → IsSeat {S = S} after (2 ^ 62)
+      → ObservesFull me after → IsSeat {S = S} after (2 ^ 62)
   seat_full me after events seat free full =
       let h = full.0 in
       let seen : seen_of (itself (seeing h) me.0.members) ≡ h = ap (λ (ms : List (Member E)). seen_of (itself (seeing h) ms)) seat.live.2 in
@@ -201,7 +202,7 @@ module _ {S K E : Type 0} (stands : K → List E → S → Type 0) where
       (subst (λ (l : List E). stands base l state) (ap (λ (h : List (Event E)). entries h ++ event.entry ∷ []) seen ∙ sym (entries_more (seen_of w.members) event)) stands_for)
 
   -- Who took the last turn has a state that stands for what it has seen.
-  pub last_state : (key : K) (me found : Me (OptionOf S) (View E)) (word : ℕ) → IsLive me.0 → TookLast (StandsFor stands key) word me found
+  pub last_state : (key : K) (me found : Me (OptionOf S) (View E)) (word : ℕ) → IsLive me.0 → HasAcquiredLast (StandsFor stands key) word me found
       → (y : S) × (found.1 ≡ (0, Some y) ∷ []) × stands key (entries (seen_of found.0.members)) y
   last_state key me found word live taken =
       let h = taken.0 in
@@ -216,7 +217,7 @@ module _ {S K E : Type 0} (stands : K → List E → S → Type 0) where
   -- What the state that is taken out at the end stands for.
   pub ended_of : (key base : K) → key ≡ base → (seat : Sitting E) (lock : TableId) (me found last : Me (OptionOf S) (View E)) (word : ℕ)
       → sitting lock me.0 ≡ seat → IsLive me.0 → ((n : Member E) → Contains me.0.members n → length n.seen ≤ length (seen_of me.0.members))
-      → TookLast (StandsFor stands key) word me found → EndedAll found last → (state : S)
+      → HasAcquiredLast (StandsFor stands key) word me found → Closes found last → (state : S)
       → stands key (entries (seen_of last.0.members)) state → Ended stands base seat state
   ended_of key base same seat lock me found last word is live most taken ended state stands_for = record {
     history = taken.0;

@@ -10,7 +10,8 @@ use Rattle.std.proofs.lemmas.Bool.Decides.{nat_tests}
 use Rattle.std.proofs.lemmas.List.{append-nil}
 use Rattle.atomic_table.proofs.Lists.{set_again, set_here, set_else, at_set}
 use Rattle.atomic_table.specs.Table.{State, Me, Act, keeps, takes, Valid, stepped, Allows, carried_after}
-use Rattle.turn_lock.specs.Turn.{TurnState, at_home, away, over, Rule, IsOver, Took, Looked, Family, itself, seeing}
+use Rattle.turn_lock.specs.Turn.{TurnState, at_home, away, over, Rule, IsOver, Acquires, Observes, Family, itself}
+use Rattle.turn_lock.specs.Turn.{seeing}
 use Rattle.turn_lock.specs.Turn.{looked, took, seen_of}
 use Rattle.turn_lock.specs.declared.view.Event.{Event}
 use Rattle.turn_lock.specs.declared.view.Member.{Member}
@@ -74,14 +75,14 @@ module _ {T E : Type 0} (stood : T → List (Event E) → Type 0) where
       }
 
   pub take_allows : (id : ℕ) (v : View E) (m : Member E) (rest : List (Member E)) → v.members ≡ m ∷ rest → (k : ℕ) → v.holds ≡ false
-      → Allows (Rule stood) 1 id (v, []) 0 (λ n. either (n == 2 * k) (2 * k + 1) n) (Took stood (v, []) (2 * k))
+      → Allows (Rule stood) 1 id (v, []) 0 (λ n. either (n == 2 * k) (2 * k + 1) n) (Acquires stood (v, []) (2 * k))
   take_allows id v m rest live k free s rule slots at fits = ⊎_elim
       (λ won. by_turn won rule.turned)
       (λ lost. (v, keeps, tt, lost_case id v k s rule at lost, record { won = λ is. absurd (lost is); lost = λ ne. refl }))
       (cases_eq (slice_index s.words 0) (2 * k))
     where
       by_turn : slice_index s.words 0 ≡ 2 * k → TurnState stood s rule.history → (w : View E) × (a : Act T) × Valid s.homes [] a × Rule stood (stepped s 0 (either (slice_index s.words 0 == 2 * k) (2 * k + 1) (slice_index s.words 0)) id [] w a)
-          × Took stood (v, []) (2 * k) (slice_index s.words 0) (w, carried_after [] a)
+          × Acquires stood (v, []) (2 * k) (slice_index s.words 0) (w, carried_after [] a)
       by_turn won (at_home state home stands count none_holds) = (
         took rule.history v,
         takes 0 state,
@@ -94,17 +95,17 @@ module _ {T E : Type 0} (stood : T → List (Event E) → Type 0) where
 
   pub take_any : (slots id : ℕ) (me : Me T (View E)) (at : ℕ) → slots ≡ 1 → (m : Member E) (rest : List (Member E)) → me.0.members ≡ m ∷ rest
       → me.0.holds ≡ false → me.1 ≡ [] → at % 2 ≡ 0
-      → Allows (Rule stood) slots id me 0 (λ n. either (n == at) (at + 1) n) (Took stood me at)
+      → Allows (Rule stood) slots id me 0 (λ n. either (n == at) (at + 1) n) (Acquires stood me at)
   take_any slots id me at one m rest live free empty even =
       let twice : 2 * (at / 2) ≡ at = omega arith in
       let pair : ◌≡◌ {A = Me T (View E)} (me.0, []) me = let back = sym empty in λ i. (me.0, back i) in
-      subst (λ (k : ℕ). Allows (Rule stood) k id me 0 (λ n. either (n == at) (at + 1) n) (Took stood me at)) (sym one)
-      (subst (λ (m : Me T (View E)). Allows (Rule stood) 1 id m 0 (λ n. either (n == at) (at + 1) n) (Took stood m at)) pair
-      (subst (λ (t : ℕ). Allows (Rule stood) 1 id (me.0, []) 0 (λ n. either (n == t) (t + 1) n) (Took stood (me.0, []) t)) twice (take_allows id me.0 m rest live (at / 2) free)))
+      subst (λ (k : ℕ). Allows (Rule stood) k id me 0 (λ n. either (n == at) (at + 1) n) (Acquires stood me at)) (sym one)
+      (subst (λ (m : Me T (View E)). Allows (Rule stood) 1 id m 0 (λ n. either (n == at) (at + 1) n) (Acquires stood m at)) pair
+      (subst (λ (t : ℕ). Allows (Rule stood) 1 id (me.0, []) 0 (λ n. either (n == t) (t + 1) n) (Acquires stood (me.0, []) t)) twice (take_allows id me.0 m rest live (at / 2) free)))
 
   -- Looking changes what the seat has seen, where the history has become as long as it may, and nothing else.
   pub look_any : (slots id : ℕ) (me : Me T (View E)) → slots ≡ 1 → me.0.holds ≡ false
-      → Allows (Rule stood) slots id me 0 (λ n. n) (Looked me)
+      → Allows (Rule stood) slots id me 0 (λ n. n) (Observes me)
   look_any slots id me one free s rule s_slots at fits = ⊎_elim
       (λ short. (
         me.0,

@@ -177,19 +177,19 @@ module _ {T E : Type 0} (stood : T → List (Event E) → Type 0) where
     pub family : Family s.views history
 
   -- The seat holds the turn, with a state that stands for the history; or nothing changed.
-  pub record Took (me : Me T (View E)) (old found : ℕ) (after : Me T (View E)) : Type 0 where
+  pub record Acquires (me : Me T (View E)) (old found : ℕ) (after : Me T (View E)) : Type 0 where
     pub won : found ≡ old → (h : List (Event E)) × (state : T)
         × (after ≡ (took h me.0, (0, state) ∷ [])) × stood state h × KnowsHistory h me.0.members × (found ≡ 2 * length h)
     pub lost : found ≢ old → after ≡ me
 
 -- Where the history has become as long as it may, the seat has seen it; else nothing changed.
-pub record Looked {T E : Type 0} (me : Me T (View E)) (found : ℕ) (after : Me T (View E)) : Type 0 where
+pub record Observes {T E : Type 0} (me : Me T (View E)) (found : ℕ) (after : Me T (View E)) : Type 0 where
   pub full : 2 ^ 63 ≤ found → (h : List (Event E)) × (after ≡ (looked h me.0, me.1)) × KnowsHistory h me.0.members × (length h ≡ 2 ^ 62)
   pub short : found < 2 ^ 63 → after ≡ me
 
 -- The turn has ended, with this entry or none.
-abbrev pub Gave : {T E : Type 0} → Option E → Me T (View E) → Me T (View E) → Type 0
-Gave entry me after = (after.0 ≡ gave entry me.0) × (after.1 ≡ rest me.1)
+abbrev pub Releases : {T E : Type 0} → Option E → Me T (View E) → Me T (View E) → Type 0
+Releases entry me after = (after.0 ≡ gave entry me.0) × (after.1 ≡ rest me.1)
 
 module _ {S K E : Type 0} (stands : K → List E → S → Type 0) where
   -- A state in the slot stands for the entries of a history.
@@ -217,19 +217,19 @@ module _ {E : Type 0} where
 
 module _ {T E : Type 0} where
   -- The seat has the turn, with a state that stands for the whole history, which is not full.
-  abbrev pub TookTurn : (T → List (Event E) → Type 0) → ℕ → Me T (View E) → Me T (View E) → Type 0
-  TookTurn stood events me after = (h : List (Event E)) × (state : T) × (after ≡ (took h me.0, (0, state) ∷ []))
+  abbrev pub HasAcquired : (T → List (Event E) → Type 0) → ℕ → Me T (View E) → Me T (View E) → Type 0
+  HasAcquired stood events me after = (h : List (Event E)) × (state : T) × (after ≡ (took h me.0, (0, state) ∷ []))
       × stood state h × KnowsHistory h me.0.members × (events ≡ length h) × (events < 2 ^ 62)
 
   -- The same at any length.
-  abbrev pub TookLast : (T → List (Event E) → Type 0) → ℕ → Me T (View E) → Me T (View E) → Type 0
-  TookLast stood word me after = (h : List (Event E)) × (state : T) × (after ≡ (took h me.0, (0, state) ∷ []))
+  abbrev pub HasAcquiredLast : (T → List (Event E) → Type 0) → ℕ → Me T (View E) → Me T (View E) → Type 0
+  HasAcquiredLast stood word me after = (h : List (Event E)) × (state : T) × (after ≡ (took h me.0, (0, state) ∷ []))
       × stood state h × KnowsHistory h me.0.members × (word ≡ 2 * length h + 1)
 
   -- The seat has seen a history that is as long as it may be.
-  abbrev pub FoundFull : Me T (View E) → Me T (View E) → Type 0
-  FoundFull me after = (h : List (Event E)) × (after ≡ (looked h me.0, me.1)) × KnowsHistory h me.0.members × (length h ≡ 2 ^ 62)
+  abbrev pub ObservesFull : Me T (View E) → Me T (View E) → Type 0
+  ObservesFull me after = (h : List (Event E)) × (after ≡ (looked h me.0, me.1)) × KnowsHistory h me.0.members × (length h ≡ 2 ^ 62)
 
 -- All turns have ended.
-abbrev pub EndedAll : {T E : Type 0} → Me T (View E) → Me T (View E) → Type 0
-EndedAll me after = (after.0 ≡ ending me.0) × (after.1 ≡ rest me.1)
+abbrev pub Closes : {T E : Type 0} → Me T (View E) → Me T (View E) → Type 0
+Closes me after = (after.0 ≡ ending me.0) × (after.1 ≡ rest me.1)

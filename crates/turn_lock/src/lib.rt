@@ -1,6 +1,6 @@
 //! The lock by which threads take turns on one state, which stands for one history of all their turns.
 //!
-//! `Turns` is the lock, `Seat` a thread's place at it, and `Stood` a state that stands for lists of entries. The
+//! `Turns` is the lock, `Seat` a thread's place at it; `Represents` says which lists of entries a state stands for. The
 //! lock stands on the kit's `atomic_table`: one word, twice the number of events and odd while a seat has the turn,
 //! and one slot, where the state is at home. The rule is `Rule` of `specs/Turn.antt`; what callers see of a seat is
 //! `Sitting` of `specs/Seats.antt`.
@@ -14,7 +14,7 @@ mod tests;
 mod turns;
 mod view;
 
-pub use rule::{Law, Stood};
+pub use rule::{Law, Represents};
 pub use seat::{Held, NewRefused, Seat};
 pub use step::Spent;
 pub use turns::Turns;

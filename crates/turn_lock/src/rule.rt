@@ -5,9 +5,9 @@ use crate::view::View;
 use atomic_table::{Join, Play, Split, TableRule};
 use std::marker::{Brand, PhantomData};
 
-/// States that stand for a history: which lists of entries, after a base, a state stands for.
-pub trait Stood<K, E> {
-    ghost stands: { K → List E → Self → Type 0 };
+/// Says which lists of entries, after a base, a state represents.
+pub trait Represents<K, E> {
+    ghost represents: { K → List E → Self → Type 0 };
 }
 
 /// What holds of the table between any two steps: `Rule` of `specs/Turn.antt`.
@@ -15,10 +15,10 @@ pub struct Law<S, K, E> {
     of: PhantomData<(S, K, E)>,
 }
 
-impl<K, E: Drop, S: Stood<K, E>> TableRule<Option<S>, View<E>, K> for Law<S, K, E> {
+impl<K, E: Drop, S: Represents<K, E>> TableRule<Option<S>, View<E>, K> for Law<S, K, E> {
     ghost use Rattle.turn_lock.specs.Turn.{Rule, StandsFor, alone};
 
-    ghost holds = { λ base s. Rule (StandsFor S.stands base) s };
+    ghost holds = { λ base s. Rule (StandsFor S.represents base) s };
 
     ghost first = { λ base. alone };
 }
@@ -39,19 +39,19 @@ pub struct Takes<S, K, E, J> {
     of: PhantomData<(S, K, E, J)>,
 }
 
-impl<K, E: Drop, S: Stood<K, E>, J: Based<K>> Play<Option<S>, View<E>> for Takes<S, K, E, J> {
-    ghost use Rattle.turn_lock.specs.Turn.{Took, StandsIf};
+impl<K, E: Drop, S: Represents<K, E>, J: Based<K>> Play<Option<S>, View<E>> for Takes<S, K, E, J> {
+    ghost use Rattle.turn_lock.specs.Turn.{Acquires, StandsIf};
 
-    ghost then = { λ step me found after. Took (StandsIf S.stands J.base) me step.first found after };
+    ghost then = { λ step me found after. Acquires (StandsIf S.represents J.base) me step.first found after };
 }
 
 /// A step that looks how long the history is.
 pub struct Looks;
 
 impl<T, E: Drop> Play<T, View<E>> for Looks {
-    ghost use Rattle.turn_lock.specs.Turn.{Looked};
+    ghost use Rattle.turn_lock.specs.Turn.{Observes};
 
-    ghost then = { λ step me found after. Looked me found after };
+    ghost then = { λ step me found after. Observes me found after };
 }
 
 /// The entry that a turn tells. The call that ends the turn picks it.
@@ -71,18 +71,18 @@ pub struct Gives<E, J> {
 }
 
 impl<T, E: Drop, J: Told<E>> Play<T, View<E>> for Gives<E, J> {
-    ghost use Rattle.turn_lock.specs.Turn.{Gave};
+    ghost use Rattle.turn_lock.specs.Turn.{Releases};
 
-    ghost then = { λ step me found after. Gave J.entry me after };
+    ghost then = { λ step me found after. Releases J.entry me after };
 }
 
 /// A step that ends all turns.
 pub struct Ends;
 
 impl<T, E: Drop> Play<T, View<E>> for Ends {
-    ghost use Rattle.turn_lock.specs.Turn.{EndedAll};
+    ghost use Rattle.turn_lock.specs.Turn.{Closes};
 
-    ghost then = { λ step me found after. EndedAll me after };
+    ghost then = { λ step me found after. Closes me after };
 }
 
 /// How a seat is split from another.

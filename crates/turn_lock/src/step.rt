@@ -1,11 +1,13 @@
 // The steps on the table, which know what a seat knows.
 ghost use Rattle.std.specs.Prelude.{◌≡◌, ◌*◌, ◌%◌, ◌<◌, ◌≤◌, ◌^◌, ◌+◌, [], ◌∷◌, false, true, Some, None, IfOk, IfErr};
 ghost use Rattle.std.specs.Prelude.{length};
-ghost use Rattle.turn_lock.specs.Turn.{Took, Looked, Gave, KnowsHistory, StandsIf, StandsFor, IsLive, TookTurn};
-ghost use Rattle.turn_lock.specs.Turn.{TookLast, EndedAll, FoundFull, kept_at_split, made_at_split, joined, entries};
+ghost use Rattle.turn_lock.specs.Turn.{Acquires, Observes, Releases, KnowsHistory, StandsIf, StandsFor, IsLive};
+ghost use Rattle.turn_lock.specs.Turn.{HasAcquired};
+ghost use Rattle.turn_lock.specs.Turn.{HasAcquiredLast, Closes, ObservesFull, kept_at_split, made_at_split, joined};
+ghost use Rattle.turn_lock.specs.Turn.{entries};
 ghost use Rattle.turn_lock.specs.Turn.{told, seen_of};
 
-use crate::rule::{Based, Both, Ends, Gives, Law, Looks, Parts, Stood, Takes, Told};
+use crate::rule::{Based, Both, Ends, Gives, Law, Looks, Parts, Represents, Takes, Told};
 use crate::view::View;
 use atomic_table::{Seat, Shared, Table};
 use std::alloc::Global;
@@ -24,7 +26,7 @@ const LOOKS: u32 = 500;
 pub struct Spent;
 
 /// How long the history is; where it is full, the seat sees it.
-fn look<K, E: Drop, S: Stood<K, E>>(
+fn look<K, E: Drop, S: Represents<K, E>>(
     shared: &Shared<Option<S>, View<E>, K, Law<S, K, E>>,
     seat: &mut Seat<Option<S>, View<E>>,
 ) -> u64
@@ -32,13 +34,13 @@ fn look<K, E: Drop, S: Stood<K, E>>(
     requires shape { (shared.now.table_id.words ≡ 1) × (shared.now.table_id.slots ≡ 1) }
     requires free { seat.old.me.0.holds ≡ false }
     ensures table { (seat.new.table_id ≡ seat.old.table_id) × (seat.new.id ≡ seat.old.id) }
-    ensures looked { Looked seat.old.me result seat.new.me }
+    ensures looked { Observes seat.old.me result seat.new.me }
 {
     shared.load::<Looks>(seat, 0)
 }
 
 /// Tries to take the turn at an even number.
-fn try_take<K, E: Drop, S: Stood<K, E>, J: Based<K>>(
+fn try_take<K, E: Drop, S: Represents<K, E>, J: Based<K>>(
     shared: &Shared<Option<S>, View<E>, K, Law<S, K, E>>,
     seat: &mut Seat<Option<S>, View<E>>,
     at: u64,
@@ -51,14 +53,14 @@ fn try_take<K, E: Drop, S: Stood<K, E>, J: Based<K>>(
     requires even { at % 2 ≡ 0 }
     requires room { at ≤ 2 ^ 63 }
     ensures table { (seat.new.table_id ≡ seat.old.table_id) × (seat.new.id ≡ seat.old.id) }
-    ensures took { Took (StandsIf S.stands J.base) seat.old.me at result seat.new.me }
+    ensures took { Acquires (StandsIf S.represents J.base) seat.old.me at result seat.new.me }
 {
     shared.compare_exchange::<Takes<S, K, E, J>>(seat, 0, at, at + 1)
 }
 
 /// Waits for the word to change: awake for about as long as a turn with a device call takes, and then asleep. It may
 /// return before the word has changed.
-fn wait_for_change<K, E: Drop, S: Stood<K, E>, R: Wait>(
+fn wait_for_change<K, E: Drop, S: Represents<K, E>, R: Wait>(
     rt: &R,
     shared: &Shared<Option<S>, View<E>, K, Law<S, K, E>>,
     found: u64,
@@ -75,7 +77,7 @@ fn wait_for_change<K, E: Drop, S: Stood<K, E>, R: Wait>(
 }
 
 /// Waits for the turn, and says how many events were before it.
-pub(crate) fn wait_for_turn<K, E: Drop, S: Stood<K, E>, J: Based<K>, R: Wait>(
+pub(crate) fn wait_for_turn<K, E: Drop, S: Represents<K, E>, J: Based<K>, R: Wait>(
     rt: &R,
     shared: &Shared<Option<S>, View<E>, K, Law<S, K, E>>,
     seat: &mut Seat<Option<S>, View<E>>,
@@ -86,8 +88,8 @@ pub(crate) fn wait_for_turn<K, E: Drop, S: Stood<K, E>, J: Based<K>, R: Wait>(
     requires live { IsLive seat.old.me.0 }
     requires free { (seat.old.me.0.holds ≡ false) × (seat.old.me.1 ≡ []) }
     ensures table { (seat.new.table_id ≡ seat.old.table_id) × (seat.new.id ≡ seat.old.id) }
-    ensures took { IfOk result (λ events. TookTurn (StandsIf S.stands J.base) events seat.old.me seat.new.me) }
-    ensures full { IfErr result (λ _. FoundFull seat.old.me seat.new.me) }
+    ensures took { IfOk result (λ events. HasAcquired (StandsIf S.represents J.base) events seat.old.me seat.new.me) }
+    ensures full { IfErr result (λ _. ObservesFull seat.old.me seat.new.me) }
 {
     for _ in rt.forever() {
         let found = look(shared, seat);
@@ -106,7 +108,7 @@ pub(crate) fn wait_for_turn<K, E: Drop, S: Stood<K, E>, J: Based<K>, R: Wait>(
 }
 
 /// Waits for the turn, at any number of events, and says what the word is then.
-pub(crate) fn wait_to_close<K, E: Drop, S: Stood<K, E>, J: Based<K>, R: Wait>(
+pub(crate) fn wait_to_close<K, E: Drop, S: Represents<K, E>, J: Based<K>, R: Wait>(
     rt: &R,
     shared: &Shared<Option<S>, View<E>, K, Law<S, K, E>>,
     seat: &mut Seat<Option<S>, View<E>>,
@@ -117,7 +119,7 @@ pub(crate) fn wait_to_close<K, E: Drop, S: Stood<K, E>, J: Based<K>, R: Wait>(
     requires live { IsLive seat.old.me.0 }
     requires free { (seat.old.me.0.holds ≡ false) × (seat.old.me.1 ≡ []) }
     ensures table { (seat.new.table_id ≡ seat.old.table_id) × (seat.new.id ≡ seat.old.id) }
-    ensures took { TookLast (StandsIf S.stands J.base) result seat.old.me seat.new.me }
+    ensures took { HasAcquiredLast (StandsIf S.represents J.base) result seat.old.me seat.new.me }
 {
     for _ in rt.forever() {
         let found = shared.peek(0);
@@ -131,7 +133,7 @@ pub(crate) fn wait_to_close<K, E: Drop, S: Stood<K, E>, J: Based<K>, R: Wait>(
 }
 
 /// Ends the turn with an entry.
-pub(crate) fn end_with<K, E: Drop, S: Stood<K, E>, J: Told<E>>(
+pub(crate) fn end_with<K, E: Drop, S: Represents<K, E>, J: Told<E>>(
     shared: &Shared<Option<S>, View<E>, K, Law<S, K, E>>,
     seat: &mut Seat<Option<S>, View<E>>,
     next: u64,
@@ -143,18 +145,18 @@ pub(crate) fn end_with<K, E: Drop, S: Stood<K, E>, J: Told<E>>(
     requires live { IsLive seat.old.me.0 }
     requires held { seat.old.me.0.holds ≡ true }
     requires state { (y : S) × (seat.old.me.1 ≡ (0, Some y) ∷ [])
-        × S.stands shared.now.key (entries (told seat.old.me.0 (Some entry.now))) y }
+        × S.represents shared.now.key (entries (told seat.old.me.0 (Some entry.now))) y }
     requires room { length (told seat.old.me.0 (Some entry.now)) ≤ 2 ^ 62 }
     requires next { next ≡ 2 * length (told seat.old.me.0 (Some entry.now)) }
     ensures table { (seat.new.table_id ≡ seat.old.table_id) × (seat.new.id ≡ seat.old.id) }
-    ensures gave { Gave (Some entry.now) seat.old.me seat.new.me }
+    ensures gave { Releases (Some entry.now) seat.old.me seat.new.me }
 {
     shared.store::<Gives<E, J>>(seat, 0, next);
     shared.wake_one(0);
 }
 
 /// Ends the turn with no entry.
-pub(crate) fn end_as_before<K, E: Drop, S: Stood<K, E>>(
+pub(crate) fn end_as_before<K, E: Drop, S: Represents<K, E>>(
     shared: &Shared<Option<S>, View<E>, K, Law<S, K, E>>,
     seat: &mut Seat<Option<S>, View<E>>,
     next: u64,
@@ -164,18 +166,18 @@ pub(crate) fn end_as_before<K, E: Drop, S: Stood<K, E>>(
     requires live { IsLive seat.old.me.0 }
     requires held { seat.old.me.0.holds ≡ true }
     requires state { (y : S) × (seat.old.me.1 ≡ (0, Some y) ∷ [])
-        × S.stands shared.now.key (entries (told seat.old.me.0 None)) y }
+        × S.represents shared.now.key (entries (told seat.old.me.0 None)) y }
     requires room { length (told seat.old.me.0 None) ≤ 2 ^ 62 }
     requires next { next ≡ 2 * length (told seat.old.me.0 None) }
     ensures table { (seat.new.table_id ≡ seat.old.table_id) × (seat.new.id ≡ seat.old.id) }
-    ensures gave { Gave None seat.old.me seat.new.me }
+    ensures gave { Releases None seat.old.me seat.new.me }
 {
     shared.store::<Gives<E, Brand>>(seat, 0, next);
     shared.wake_one(0);
 }
 
 /// Splits a seat from another.
-pub(crate) fn split<K, E: Drop, S: Stood<K, E>>(
+pub(crate) fn split<K, E: Drop, S: Represents<K, E>>(
     shared: &Shared<Option<S>, View<E>, K, Law<S, K, E>>,
     seat: &mut Seat<Option<S>, View<E>>,
 ) -> Seat<Option<S>, View<E>>
@@ -192,7 +194,7 @@ pub(crate) fn split<K, E: Drop, S: Stood<K, E>>(
 }
 
 /// Joins a seat into another.
-pub(crate) fn join<K, E: Drop, S: Stood<K, E>>(
+pub(crate) fn join<K, E: Drop, S: Represents<K, E>>(
     shared: &Shared<Option<S>, View<E>, K, Law<S, K, E>>,
     seat: &mut Seat<Option<S>, View<E>>,
     other: Seat<Option<S>, View<E>>,
@@ -208,7 +210,7 @@ pub(crate) fn join<K, E: Drop, S: Stood<K, E>>(
 }
 
 /// Lifts the state out of the slot.
-pub(crate) fn lift<K, E: Drop, S: Stood<K, E>>(
+pub(crate) fn lift<K, E: Drop, S: Represents<K, E>>(
     shared: &Shared<Option<S>, View<E>, K, Law<S, K, E>>,
     seat: &mut Seat<Option<S>, View<E>>,
 ) -> S
@@ -225,7 +227,7 @@ pub(crate) fn lift<K, E: Drop, S: Stood<K, E>>(
 }
 
 /// Puts the state back into the slot.
-pub(crate) fn lay<K, E: Drop, S: Stood<K, E>>(
+pub(crate) fn lay<K, E: Drop, S: Represents<K, E>>(
     shared: &Shared<Option<S>, View<E>, K, Law<S, K, E>>,
     seat: &mut Seat<Option<S>, View<E>>,
     state: S,
@@ -240,7 +242,7 @@ pub(crate) fn lay<K, E: Drop, S: Stood<K, E>>(
 }
 
 /// Ends all turns: the state lies in the slot, and the word stays as it is.
-pub(crate) fn end_all<K, E: Drop, S: Stood<K, E>>(
+pub(crate) fn end_all<K, E: Drop, S: Represents<K, E>>(
     shared: &Shared<Option<S>, View<E>, K, Law<S, K, E>>,
     seat: &mut Seat<Option<S>, View<E>>,
     word: u64,
@@ -249,23 +251,23 @@ pub(crate) fn end_all<K, E: Drop, S: Stood<K, E>>(
     requires shape { (shared.now.table_id.words ≡ 1) × (shared.now.table_id.slots ≡ 1) }
     requires held { seat.old.me.0.holds ≡ true }
     requires state { (y : S) × (seat.old.me.1 ≡ (0, Some y) ∷ [])
-        × S.stands shared.now.key (entries (seen_of seat.old.me.0.members)) y }
+        × S.represents shared.now.key (entries (seen_of seat.old.me.0.members)) y }
     requires word { word ≡ 2 * length (seen_of seat.old.me.0.members) + 1 }
     ensures table { (seat.new.table_id ≡ seat.old.table_id) × (seat.new.id ≡ seat.old.id) }
-    ensures ended { EndedAll seat.old.me seat.new.me }
+    ensures ended { Closes seat.old.me seat.new.me }
 {
     shared.store::<Ends>(seat, 0, word);
 }
 
 /// Takes the state out of a lock whose turns have ended.
-pub(crate) fn take_out<K, E: Drop, S: Stood<K, E>>(
+pub(crate) fn take_out<K, E: Drop, S: Represents<K, E>>(
     table: Table<Option<S>, View<E>, K, Law<S, K, E>, Global>,
     seat: Seat<Option<S>, View<E>>,
 ) -> S
     requires table { seat.table_id ≡ table.shared.table_id }
     requires shape { (table.shared.table_id.words ≡ 1) × (table.shared.table_id.slots ≡ 1) }
     requires ended { seat.me.0.ended ≡ true }
-    ensures stands { S.stands table.shared.key (entries (seen_of seat.me.0.members)) result }
+    ensures stands { S.represents table.shared.key (entries (seen_of seat.me.0.members)) result }
 {
     let mut closed = table.close_with(seat);
     let last = closed.take(0);

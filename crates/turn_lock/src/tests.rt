@@ -2,7 +2,7 @@
 ghost use Rattle.std.specs.Prelude.{◌≡◌, false, IfSome, length};
 ghost use Rattle.std.specs.Thread.{IsSync};
 
-use crate::{Seat, Stood, Turns};
+use crate::{Represents, Seat, Turns};
 use std::sync::Wait;
 use std::test::Fail;
 use std::thread::{Threads, join};
@@ -13,10 +13,10 @@ struct Tally {
     count: u64,
 }
 
-impl Stood<(), u8> for Tally {
+impl Represents<(), u8> for Tally {
     ghost use Rattle.std.specs.Prelude.{◌≡◌, length};
 
-    ghost stands = { λ base entries tally. tally.count ≡ length entries };
+    ghost represents = { λ base entries tally. tally.count ≡ length entries };
 }
 
 /// Takes some turns, each with an entry.

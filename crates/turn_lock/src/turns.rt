@@ -5,7 +5,7 @@ ghost use Rattle.turn_lock.specs.Turn.{KnowsHistory, entries};
 ghost use Rattle.turn_lock.specs.Seats.{first_seat, everyone, having_seen, with_turn, after_entry, without_turn};
 ghost use Rattle.turn_lock.specs.Seats.{having_split, split_from, with_joined, Ended};
 
-use crate::rule::{Law, Stood};
+use crate::rule::{Law, Represents};
 use crate::seat::{Held, NewRefused, Seat};
 use crate::step::{
     FULL, Spent, end_all, end_as_before, end_with, join, lay, lift, split, take_out, wait_for_turn,
@@ -18,11 +18,11 @@ use std::marker::{Brand, Model, PhantomData};
 use std::sync::Wait;
 
 /// A state that threads use by turns.
-pub struct Turns<S: Stood<K, E>, K, E: Drop> {
+pub struct Turns<S: Represents<K, E>, K, E: Drop> {
     pub(crate) table: Table<Option<S>, View<E>, K, Law<S, K, E>, Global>,
 }
 
-impl<S: Stood<K, E>, K, E: Drop> Model for Turns<S, K, E> {
+impl<S: Represents<K, E>, K, E: Drop> Model for Turns<S, K, E> {
     ghost use Rattle.std.specs.Prelude.{◌≡◌};
     ghost use Rattle.turn_lock.specs.Seats.{Lock};
 
@@ -33,14 +33,14 @@ impl<S: Stood<K, E>, K, E: Drop> Model for Turns<S, K, E> {
     ghost invariant = { λ t. (t.table.shared.table_id.words ≡ 1) × (t.table.shared.table_id.slots ≡ 1) };
 }
 
-impl<S: Stood<K, E>, K, E: Drop> Turns<S, K, E> {
+impl<S: Represents<K, E>, K, E: Drop> Turns<S, K, E> {
     /// A lock on a state that stands for no entry yet, and its first seat.
     pub fn new(
         alloc: Global,
         state: S,
         base: &K,
     ) -> Result<(Turns<S, K, E>, Seat<S, E>), NewRefused<S>>
-        requires stands { S.stands base.now [] state }
+        requires stands { S.represents base.now [] state }
         ensures lock { IfOk result (λ made. made.0.base ≡ base.now) }
         ensures seat { IfOk result (λ made. made.1 ≡ first_seat made.0.id) }
         ensures refused { IfErr result (λ refused. refused.state ≡ state) }
@@ -57,7 +57,7 @@ impl<S: Stood<K, E>, K, E: Drop> Turns<S, K, E> {
         requires lock { seat.old.lock ≡ self.now.id }
         requires free { seat.old.holds ≡ false }
         ensures held { IfOk result (λ _. seat.new ≡ with_turn seat.new.me.seen seat.old) }
-        ensures stands { IfOk result (λ held. S.stands self.now.base (entries seat.new.me.seen) held.state) }
+        ensures stands { IfOk result (λ held. S.represents self.now.base (entries seat.new.me.seen) held.state) }
         ensures room { IfOk result (λ _. length seat.new.me.seen < 2 ^ 62) }
         ensures spent { IfErr result (λ _. seat.new ≡ having_seen seat.new.me.seen seat.old) }
         ensures full { IfErr result (λ _. length seat.new.me.seen ≡ 2 ^ 62) }
@@ -82,7 +82,7 @@ impl<S: Stood<K, E>, K, E: Drop> Turns<S, K, E> {
     pub fn give(&self, seat: &mut Seat<S, E>, held: Held<S>, entry: &E)
         requires lock { seat.old.lock ≡ self.now.id }
         requires holds { seat.old.holds ≡ true }
-        requires stands { S.stands self.now.base (entries seat.old.me.seen ++ entry.now ∷ []) held.state }
+        requires stands { S.represents self.now.base (entries seat.old.me.seen ++ entry.now ∷ []) held.state }
         ensures gave { seat.new ≡ after_entry entry.now seat.old }
     {
         let Held { state, of: _ } = held;
@@ -95,7 +95,7 @@ impl<S: Stood<K, E>, K, E: Drop> Turns<S, K, E> {
     pub fn give_back(&self, seat: &mut Seat<S, E>, held: Held<S>)
         requires lock { seat.old.lock ≡ self.now.id }
         requires holds { seat.old.holds ≡ true }
-        requires stands { S.stands self.now.base (entries seat.old.me.seen) held.state }
+        requires stands { S.represents self.now.base (entries seat.old.me.seen) held.state }
         ensures gave { seat.new ≡ without_turn seat.old }
     {
         let Held { state, of: _ } = held;
@@ -131,7 +131,7 @@ impl<S: Stood<K, E>, K, E: Drop> Turns<S, K, E> {
     pub fn close<R: Wait>(self, rt: &R, seat: Seat<S, E>) -> S
         requires lock { seat.lock ≡ self.id }
         requires free { seat.holds ≡ false }
-        ensures ended { Ended S.stands self.base seat result }
+        ensures ended { Ended S.represents self.base seat result }
     {
         let Turns { table } = self;
         let mut last = seat.into_inner();

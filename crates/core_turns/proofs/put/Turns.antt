@@ -122,7 +122,7 @@ pub fills_of : (core : Core) (old new : PutRun) (content : List ℕ) → FillsPu
 fills_of core old new content fills len of = subst (IsPutOf core) (sym fills.rest)
     (filled_of {content = content} (search (plan_now, arith)) of)
 
--- whether memory was wanting for that or not,
+-- whether memory was exhausted for that or not,
 pub went_filled : (old new : PutRun) (content : List ℕ) (result : Result (Unit {0}) OutOfMemory)
     → OnOk result (FillsPut old new content) → OnErr result (new ≡ old) → length content ≡ old.len
     → (core : Core) → IsPutOf core old → IsPutOf core new

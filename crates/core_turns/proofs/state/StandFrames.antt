@@ -77,7 +77,7 @@ lawful_before {old} {new} same lawful =
       stays_could = λ d x bytes other is has. lawful.stays_could d x bytes other (leaves d x ∙ is) (search could);
     }
 
--- The group of a commit stands still where only devices went out, as far as the commit has come.
+-- The group of a commit is unchanged where only devices went out, as far as the commit has come.
 pub group_still : {setting : Setting} {last : Kept} {begun : List Kept} {calls : List HoldingCall}
     {run next : CommitRun} (before after : CoreState) (was : CommitStands setting last begun calls run before)
     → OnlyOut before.core after.core → IsCommitOf after.core next
@@ -87,7 +87,7 @@ group_still {calls = calls} before after was core of come =
     let spared : PutsSpare after calls was.next = λ put has. rw core (was.spared put has) in
     search (come, arith)
 
--- The groups stand still where devices were read,
+-- The groups is unchanged where devices were read,
 pub groups_read : (setting : Setting) (last : Kept) (begun : List Kept) (calls : List HoldingCall)
     (commit : Option CommitRun) (before after : CoreState) → OnlyOut before.core after.core
     → Unchanged before.disk after.disk

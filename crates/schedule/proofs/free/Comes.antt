@@ -47,7 +47,7 @@ module _ {script : Script} {actor : ℕ} {before after : TurnState} {clients new
         of_kind = rw asked of.answers;
         tells = λ out told. let many = rw told at frees.frees in (many.0, many.1);
         limit = λ reached told. absurd (plain_no_limit of.plain reached told);
-        memory = λ wanting. absurd (rw wanting at frees.frees);
+        memory = λ refused. absurd (rw refused at frees.frees);
         device = search no_device_cause;
       })
       (λ full. absurd (put_alone (λ put. cc) of.answers full))

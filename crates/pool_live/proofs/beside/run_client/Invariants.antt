@@ -5,5 +5,5 @@ use Rattle.pool_live.proofs.beside.run_client.Given as goal
 
 -- the seat is one of the lock, and free; and what was computed is of the client's calls
 abbrev pub invariant-loop : goal.invariant-loop
-invariant-loop g l = (l.seat.lock ≡ l.fn.turns.id) × (l.seat.holds ≡ false)
-    × IsComputedFor (calls_of l.fn.script l.fn.actor) l.computed
+invariant-loop g l = (l.seat.lock ≡ l.fn.run.turns.now.id) × (l.seat.holds ≡ false)
+    × IsComputedFor (calls_of l.fn.run.script.now l.fn.actor) l.computed

@@ -85,7 +85,7 @@ returns-clause-run g c =
 
 pub returns-clause-memory : goal.returns-clause-memory
 returns-clause-memory g c =
-    rw c.of.ensures (λ wanting. subst AnswersNone
-    (sym (c.carry_out_with.ensures.memory wanting ∙ c.list.ensures.items
+    rw c.of.ensures (λ exhausted. subst AnswersNone
+    (sym (c.carry_out_with.ensures.memory exhausted ∙ c.list.ensures.items
     ∙ ap (λ (l : List Item). l ++ Group c.first_item.result ∷ []) c.requires.empty))
     (group_answers_none c.first_item.result))

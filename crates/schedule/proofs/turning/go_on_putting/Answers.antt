@@ -12,9 +12,9 @@ write_on-requires-clause-under_way g c = filled_under c.args.call.now
 
 pub returns-else-fill_in-clause-goes : goal.returns-else-fill_in-clause-goes
 returns-else-fill_in-clause-goes g c =
-    let wanting = c.fill_in.ensures.wanting c.if-fill_in.false in
+    let refused = c.fill_in.ensures.no_memory c.if-fill_in.false in
     put_gives c.args.core.now c.put_give_up.new.self (g.B.Bank.disk c.args.bank.now) c.args.call.now
-    (Done c.put_give_up.result) wanting.1 wanting.0 c.put_give_up.ensures.gives_up
+    (Done c.put_give_up.result) refused.1 refused.0 c.put_give_up.ensures.gives_up
 
 pub returns-else-fill_in-clause-goes_on : goal.returns-else-fill_in-clause-goes_on
 returns-else-fill_in-clause-goes_on g c = put_gives_goes c.fill_in.new.run

@@ -10,6 +10,6 @@ store-requires g c =
     let state = c.requires.state in (
       c.requires.table,
       omega (arith, c.requires.shape.0),
-      last_any (StandsFor g.S.Stood.stands shared.key) shared.table_id.slots seat.id c.args.word seat.me (Some state.0)
+      last_any (StandsFor g.S.Represents.represents shared.key) shared.table_id.slots seat.id c.args.word seat.me (Some state.0)
           c.requires.shape.1 c.requires.held state.1 state.2 c.requires.word,
     )

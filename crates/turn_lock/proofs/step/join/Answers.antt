@@ -10,5 +10,5 @@ join_seat-requires g c =
       c.requires.tables.1,
       c.requires.free.2,
       omega (arith, c.requires.shape.0),
-      join_any (StandsFor g.S.Stood.stands c.args.shared.now.key) c.args.seat.now.id c.args.other.id c.args.seat.now.me.0 c.args.other.me.0 live.0 live.1 live.2 c.requires.free.0 c.requires.free.1,
+      join_any (StandsFor g.S.Represents.represents c.args.shared.now.key) c.args.seat.now.id c.args.other.id c.args.seat.now.me.0 c.args.other.me.0 live.0 live.1 live.2 c.requires.free.0 c.requires.free.1,
     )

@@ -8,5 +8,5 @@ split_seat-requires g c =
     let live = c.requires.live in (
       c.requires.table,
       omega (arith, c.requires.shape.0),
-      split_any (StandsFor g.S.Stood.stands c.args.shared.now.key) c.args.seat.now.id c.args.seat.now.me.0 live.0 live.1 live.2 c.requires.free,
+      split_any (StandsFor g.S.Represents.represents c.args.shared.now.key) c.args.seat.now.id c.args.seat.now.me.0 live.0 live.1 live.2 c.requires.free,
     )

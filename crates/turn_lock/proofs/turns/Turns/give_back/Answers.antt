@@ -10,7 +10,7 @@ pub end_as_before-requires-clause-state : goal.end_as_before-requires-clause-sta
 end_as_before-requires-clause-state g c = (
   c.args.held.state,
   ap (λ (m : Me (OptionOf g.row.S.Denot) (View g.row.E.Denot)). m.1) c.lay.ensures.state,
-  laid_before g.S.Stood.stands c.self.inside.table.shared.key c.args.self.now.base (ap (λ (l : Lock g.row.K.Denot). l.base) c.self.view_is)
+  laid_before g.S.Represents.represents c.self.inside.table.shared.key c.args.self.now.base (ap (λ (l : Lock g.row.K.Denot). l.base) c.self.view_is)
       c.args.seat.now c.seat.inside.seat.table_id c.seat.inside.seat.me.0 c.lay.new.seat.me.0 c.seat.view_is
       (ap (λ (m : Me (OptionOf g.row.S.Denot) (View g.row.E.Denot)). m.0) c.lay.ensures.state) c.args.held.state c.requires.stands,
 )

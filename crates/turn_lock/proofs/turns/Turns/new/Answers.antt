@@ -7,5 +7,5 @@ use Rattle.turn_lock.proofs.turns.Turns.new.Goals as goal
 
 pub new-requires : goal.new-requires
 new-requires g c =
-    subst (λ (slots : List (OptionOf g.row.S.Denot)). Rule (StandsFor g.S.Stood.stands c.args.base.now) (opening (0 ∷ []) slots (alone {E = g.row.E.Denot})))
-    (sym c.in_ok-slots.ensures.slots) (opening_rule (StandsFor g.S.Stood.stands c.args.base.now) (Some c.args.state) c.requires.stands)
+    subst (λ (slots : List (OptionOf g.row.S.Denot)). Rule (StandsFor g.S.Represents.represents c.args.base.now) (opening (0 ∷ []) slots (alone {E = g.row.E.Denot})))
+    (sym c.in_ok-slots.ensures.slots) (opening_rule (StandsFor g.S.Represents.represents c.args.base.now) (Some c.args.state) c.requires.stands)
