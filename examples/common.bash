@@ -35,12 +35,16 @@ range() {
 }
 
 # start WORD..: starts the program. Its output is in $work/text and its status in `status`. What it tells on standard
-# error is passed on, each line once, however many runs of it tell the same.
+# error is passed on, each line once, however many runs of it tell the same; but for what a status tells of images that are
+# well, or that another line tells.
 declare -A told=()
 start() {
   local line
   status=0
   "$raidzx" "$@" 2>&1 >"$work/text" | while IFS= read -r line; do
+    case $line in
+      *': in use' | *': cannot be read' | 'raidzx: all blocks can be read'*) continue ;;
+    esac
     [ -n "${told[-$line]-}" ] || printf '%s\n' "$line" >&2
     told[-$line]=told
   done || status=$?

@@ -30,6 +30,14 @@ not_attached() {
   echo "raidzx: disk3: not attached, as it shows image $1 of pool $2; nothing was written to it"
 }
 
+# What is told of an attach that brought no image.
+expanding='raidzx: no image was attached, as the copy to 4 images is not done: copy, then attach'
+new_failed="raidzx: disk3: not attached: a call on it failed, or it is shorter than the pool's; no image of the pool is out for it"
+is_out() { echo "raidzx: no image was attached, as image $1 is out: a pool grows while all its disks are in use"; }
+behind() {
+  echo "raidzx: disk$1: its last group is $2, the pool's is $3: it missed what was synced since, and is out for good"
+}
+
 # An attach that goes well.
 old_and_one
 runs 'an image is attached' 0 '0 group 3 after 0
@@ -71,7 +79,7 @@ runs 'the next run puts and syncs' 0 "0 group 7 after 0
 4 a.3 sync group 8
 5 a.4 sum 2 at 5 $second
 6 a.5 attach expanding to 4" 'sum 1' 'put 2 5000 2' sync 'sum 2' attach
-tells 'nothing is told'
+tells 'why no other is attached' "$expanding"
 keep later
 both="0 group 10 after 0
 1 a.1 sum 1 at 1 $first
@@ -93,8 +101,8 @@ for number in 0 1 2 3; do
 4 a.3 sync group 8
 5 a.4 sum 2 at 5 $second
 6 a.5 attach expanding to 4" 'sum 1' 'put 2 5000 2' sync 'sum 2' attach
-  tells 'it is told' "raidzx: disk$number: cannot be opened: $missing; its disk counts as failed" \
-    "raidzx: disk$number: 1 call failed in this run" "raidzx: disk$number: out of the pool for good"
+  tells 'it is told' "raidzx: disk$number: cannot be opened: $missing; its disk counts as failed" "$expanding" \
+    "raidzx: disk$number: out of the pool for good"
   stands "$widened" $number 2
   keep without
   for other in 0 1 2 3; do
@@ -102,7 +110,7 @@ for number in 0 1 2 3; do
     if [ $other = $number ]; then
       cp attached/disk$number .
       runs "disk$number is there again" 0 "$both" 'sum 1' 'sum 2'
-      tells 'it stays out' "raidzx: disk$number: out of the pool for good"
+      tells 'it stays out' "$(behind $number 5 8)" "raidzx: disk$number: out of the pool for good"
       same 'and is not written' disk$number attached/disk$number
     else
       rm disk$other
@@ -126,7 +134,8 @@ back attached
 cp other disk3
 runs "another pool's image in the place of the new one" 0 "0 group 7 after 0
 1 a.1 sum 1 at 1 $first" 'sum 1'
-tells 'it is out' 'raidzx: disk3: out of the pool for good'
+tells 'it is out' 'raidzx: disk3: shows image 3 of pool 5, and is named as image 3 of pool 9' \
+  'raidzx: disk3: out of the pool for good'
 same 'and is left alone' disk3 other
 stands "$widened" 3 1
 
@@ -184,14 +193,14 @@ ${works/REFUSED/$answer}" 'puthex 1 61' attach 'puthex 2 62' sync 'get 2'
 
 old_and_one
 IMAGES=("${old[@]}")
-refused 'no device 3'
+refused 'no device 3' 'raidzx: no image was attached: 3 are named and the pool has 3; name it behind them, up to 16'
 
 old_and_one
 rm disk1
 runs 'attach device out 1' 0 "0 group 3 after 0
 ${works/REFUSED/device out 1}" 'puthex 1 61' attach 'puthex 2 62' sync 'get 2'
-tells 'it is told' "raidzx: disk1: cannot be opened: $missing; its disk counts as failed" \
-  'raidzx: disk1: 1 call failed in this run' 'raidzx: disk1: out of the pool for good'
+tells 'it is told' "raidzx: disk1: cannot be opened: $missing; its disk counts as failed" "$(is_out 1)" \
+  'raidzx: disk1: out of the pool for good'
 unused disk3 0 256
 stands 3 1 2
 runs 'also in the next run' 0 '0 group 6 after 0
@@ -238,33 +247,32 @@ runs 'the other pool is whole' 0 '0 group 45 after 0
 1 a.1 get 7 at 1 bytes ff' 'get 7'
 tells 'nothing is told'
 
-# An image of this pool, as it was.
+# An image of this pool, as it was, stands in another place than it shows: the run is refused.
 for number in 0 1 2; do
   old_and_one
   cp disk$number disk3
-  refused "taken $(shown disk3)" "$(not_attached $number 9)"
+  keep copied
+  runs "a copy of disk$number behind the pool" 4 'too many failed 3' attach
+  tells 'it is told' "raidzx: disk3: is named as image 3, and shows image $number of pool 9" \
+    'raidzx: nothing was done, as these words would cost disks that may be whole'
+  unchanged 'nothing is written' copied
 done
 
 # An image that is too short, missing, or no file.
-short() {
-  echo "raidzx: disk3: has $1 sectors and the longest image 256; it goes out if the pool goes on past its end"
-}
 old_and_one
 truncate -s $((255 * 512)) disk3
-refused 'new device failed 3' "$(short 255)" 'raidzx: disk3: 1 call failed in this run'
+refused 'new device failed 3' 'raidzx: disk3: 1 call failed in this run' "$new_failed"
 old_and_one
 truncate -s $((31 * 512)) disk3
-refused 'new device failed 3' "$(short 31)" 'raidzx: disk3: 2 calls failed in this run'
+refused 'new device failed 3' 'raidzx: disk3: 3 calls failed in this run' "$new_failed"
 old_and_one
 rm disk3
-refused 'new device failed 3' "raidzx: disk3: cannot be opened: $missing; its disk counts as failed" \
-  'raidzx: disk3: 2 calls failed in this run'
+refused 'new device failed 3' "raidzx: disk3: cannot be opened: $missing; its disk counts as failed" "$new_failed"
 old_and_one
 rm disk3
 mkdir disk3
 refused 'new device failed 3' \
-  'raidzx: disk3: cannot be opened: Is a directory (os error 21); its disk counts as failed' \
-  'raidzx: disk3: 2 calls failed in this run'
+  'raidzx: disk3: cannot be opened: Is a directory (os error 21); its disk counts as failed' "$new_failed"
 
 # An image that is longer than the pool's: what is behind their end is not used, and they stay in the pool.
 old_and_one
@@ -275,10 +283,8 @@ runs 'a longer image is attached' 0 '0 group 3 after 0
 3 a.2 sync group 4
 4 group 5 after 4
 5 a.3 attach width 4 group 5' 'put 1 1536 0' sync attach
-tells 'the others may be too short' "$(for number in 0 1 2; do
-  echo "raidzx: disk$number: has 256 sectors and the longest image 300; it goes out if the pool goes on past its end"
-done)"
-expect 'they are not' 0 "pool 9 parity 1 rows 64 group 5
+tells 'nothing is told'
+expect 'it is one of the pool' 0 "pool 9 parity 1 rows 64 group 5
 width $widened
 births 0:3
 out none
@@ -286,14 +292,15 @@ blocks 1" "${all[@]}" -- status
 unused disk3 256 44
 
 # Two clients: the one attaches, the other puts, reads and frees meanwhile.
-# replays NAME TEXT LINE..: a script of these lines is replayed on a fresh pool and an image more.
+# replays NAME TEXT LINE..: a script of these lines is replayed on a fresh pool and an image more. TOLD is what is told.
+TOLD=()
 replays() {
   local name=$1 text=$2
   shift 2
   old_and_one
   printf '%s\n' "$@" >script
   INPUT=script expect "$name" 0 "$text" "${IMAGES[@]}" -- replay
-  tells 'nothing is told'
+  tells 'what is told' "${TOLD[@]}"
 }
 replays 'puts, gets and frees beside an attach' '0 group 3 after 0
 1 b.1 put 7 ok
@@ -354,6 +361,7 @@ replays 'a sync beside an attach' '0 group 3 after 0
 5 group 5 after 5
 6 a.1 attach width 4 group 5' \
   'clients 2' 'a attach' 'b puthex 7 61' 'b sync' 'b get 7' "order $(turns ab 60)"
+TOLD=("$expanding")
 replays 'two attaches beside one another' '0 group 3 after 0
 1 group 4 after 1
 2 a.1 attach width 4 group 4
@@ -367,8 +375,8 @@ once='raidzx: disk3: 1 call failed in this run'
 read_back="1 a.1 get 1 at 1 bytes 61
 2 a.2 get 2 at 2 bytes 62"
 
-# fails FAULT TEXT [LINE..]: this call on the new image fails. The run answers this and tells these lines, and so do
-# later runs the two blocks, with all images and without each one but for those that are out.
+# fails FAULT TEXT LINE [LINE]: this call on the new image fails. The run answers this and tells these lines, the second
+# that it is out; and so do later runs the two blocks, with all images and without each one but for those that are out.
 fails() {
   local fault=$1 text=$2 number
   shift 2
@@ -385,7 +393,7 @@ $text" "$once" "$@"
   for number in 0 1 2 3 none; do
     back disturbed
     [ $number = none ] || rm disk$number
-    if [ $# = 1 ] && [ $number != 3 ] && [ $number != none ]; then
+    if [ $# = 2 ] && [ $number != 3 ] && [ $number != none ]; then
       runs "then without disk$number" 4 "too many failed $number 3" 'get 1'
     else
       "$RAIDZX" "${IMAGES[@]}" -- replay <reads 2>told | tail -n +2 | cmp -s - wanted ||
@@ -397,7 +405,7 @@ $text" "$once" "$@"
 calls 'get 1' 'get 2' >reads
 echo "$read_back" >wanted
 
-# In the opening and in its ring while the attach reads it, and the last sector that it tries: it is no device yet.
+# At the start, in the opening and in its ring while the attach reads it, and the last sector that it tries: it is no device yet.
 attached='4 group 5 after 4
 5 a.3 attach width 4 group 5
 6 a.4 put 2 ok
@@ -420,13 +428,15 @@ not_written='4 group 5 after 4
 9 a.6 get 2 at 9 bytes 62
 10 group 7 after 10
 11 a.7 attach width 4 group 7'
-for when in 1 32; do fails pread64:error=EIO:when=$when "$attached"; done
-for when in 33 48 64 65; do fails pread64:error=EIO:when=$when "$not_read"; done
+for when in 1 32 33 64; do fails pread64:error=EIO:when=$when "$attached" "$expanding"; done
+for when in 65 80 96 97; do fails pread64:error=EIO:when=$when "$not_read" "$new_failed"; done
 # Its page, and the sync of it. Then it is a device of the pool, and goes out.
 for call in pwrite64 fdatasync; do
-  fails $call:error=EIO:when=1 "$not_written"
-  fails $call:error=ENOSPC:when=1 "$not_written"
-  for when in 2 3; do fails $call:error=EIO:when=$when "$attached" 'raidzx: disk3: out of the pool for good'; done
+  fails $call:error=EIO:when=1 "$not_written" "$new_failed"
+  fails $call:error=ENOSPC:when=1 "$not_written" "$new_failed"
+  for when in 2 3; do
+    fails $call:error=EIO:when=$when "$attached" "$expanding" 'raidzx: disk3: out of the pool for good'
+  done
 done
 
 # It fails for good from each of these calls on.
@@ -438,7 +448,7 @@ fails_on() { # FAULT ANSWER
   "$RAIDZX" "${IMAGES[@]}" -- replay <reads 2>told | tail -n +2 | cmp -s - wanted || failed "$1" 'other blocks'
   printf 'ok the new image with %s\n' "$1"
 }
-for when in 1 33 65; do fails_on pread64:error=EIO:when=$when+ 'new device failed 3'; done
+for when in 1 33 65 97; do fails_on pread64:error=EIO:when=$when+ 'new device failed 3'; done
 for call in pwrite64 fdatasync; do
   fails_on $call:error=EIO:when=1+ 'new device failed 3'
   fails_on $call:error=EIO:when=2+ 'width 4 group 4'
@@ -446,7 +456,7 @@ done
 
 # An image of the pool fails in the attach's commit: before the first uberblock is written no image joins, and from then
 # on the new one is a device like the others.
-old_fails() { # NUMBER FAULT ANSWER
+old_fails() { # NUMBER FAULT ANSWER [LINE]
   old_and_one
   calls 'puthex 1 61' attach 'puthex 2 62' sync >script
   INPUT=script disturbed "disk$1" "$2" "${IMAGES[@]}" -- replay
@@ -456,14 +466,14 @@ old_fails() { # NUMBER FAULT ANSWER
 3 a.2 attach $3
 4 a.3 put 2 ok
 5 group 5 after 5
-6 a.4 sync group 5" "raidzx: disk$1: 1 call failed in this run" "raidzx: disk$1: out of the pool for good"
+6 a.4 sync group 5" "raidzx: disk$1: 1 call failed in this run" ${4:+"$4"} "raidzx: disk$1: out of the pool for good"
   rm "disk$1"
   "$RAIDZX" "${IMAGES[@]}" -- replay <reads 2>told | tail -n +2 | cmp -s - wanted || failed "$2" 'other blocks'
   printf 'ok disk%s with %s\n' "$1" "$2"
 }
 for number in 0 1; do
-  old_fails $number pwrite64:error=EIO:when=3 "device out $number"
-  old_fails $number fdatasync:error=EIO:when=3 "device out $number"
+  old_fails $number pwrite64:error=EIO:when=3 "device out $number" "$(is_out $number)"
+  old_fails $number fdatasync:error=EIO:when=3 "device out $number" "$(is_out $number)"
   old_fails $number pwrite64:error=EIO:when=4 'width 4 group 4'
   old_fails $number fdatasync:error=EIO:when=4 'width 4 group 4'
 done

@@ -23,7 +23,9 @@ traced() {
 each() { for number in 0 1 2; do echo "$1 disk$number${2:+ $2}"; done; }
 begin() {
   for number in 0 1 2; do printf '%s disk'$number'\n' open lock measure; done
-  for number in 0 1 2; do printf 'read disk'$number' %s\n' $(seq 0 31); done
+  for _ in 1 2; do # what each image shows, and the opening
+    for number in 0 1 2; do printf 'read disk'$number' %s\n' $(seq 0 31); done
+  done
 }
 # group SLOT [SECTOR..]: a commit, with its index sectors: page, sync, uberblock, sync.
 group() {
@@ -71,8 +73,8 @@ grep -c 'sync' <found >counts
 for word in write read; do grep -c "^$word" found >>counts; done
 grep -vcE '^((write|read) disk. [0-9]+|(open|lock|measure|fdatasync|close) disk.|answer .*)$' found >>counts || true
 # Syncs: 6 of the opening, 6 of the sync. Writes: 3 uberblocks, 1,200 columns, 3 pages of 13 sectors, 3 uberblocks.
-# Reads: 96 slots, 1,200 columns, 3 uberblocks at the end.
-printf '%s\n' 12 $((3 + 1200 + 39 + 3)) $((96 + 1200 + 3)) 0 >wanted
+# Reads: 96 slots twice, 1,200 columns, 3 uberblocks at the end.
+printf '%s\n' 12 $((3 + 1200 + 39 + 3)) $((192 + 1200 + 3)) 0 >wanted
 same 'the number of calls' counts wanted
 grep '^answer' found |
   awk 'last != "" && last < 4096 || $2 != $3 { exit } { last = $2; sum += $3 } END { print sum }' >sum

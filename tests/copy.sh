@@ -93,7 +93,8 @@ for number in 0 1 2 3; do
 5 a.4 sync group 14
 6 a.5 sum 4 at 6 $first" copy attach 'put 4 1536 0' sync 'sum 4'
   tells 'it is told' "raidzx: disk$number: cannot be opened: $missing; its disk counts as failed" \
-    "raidzx: disk$number: 1 call failed in this run" "raidzx: disk$number: out of the pool for good"
+    "raidzx: no image was attached, as image $number is out: a pool grows while all its disks are in use" \
+    "raidzx: disk$number: out of the pool for good"
   shows 4 '0:3 11:4' $number 4
 done
 back widened
@@ -103,7 +104,7 @@ width 4
 births 0:3 11:4
 out 3
 blocks 3' "${IMAGES[@]}" -- status
-reads_wanted 'the old images alone'
+runs 'and a run over them is refused' 4 'too many failed 3' 'sum 1'
 
 # A second image more: from four to five, with blocks of both widths before, and of all three behind.
 pool_and 2
@@ -289,6 +290,7 @@ sed '/^sum 1 /d' full_wanted >wanted
 for number in 0 1 2 3; do
   back full
   rm disk$number
+  paused="raidzx: the copy is paused, as image $number is out; all blocks are read as before"
   runs "a copy without disk$number" 0 "0 group 7 after 0
 1 a.1 copy paused $number
 2 a.2 attach expanding to 4
@@ -301,12 +303,14 @@ for number in 0 1 2 3; do
 9 a.7 get 1 at 9 bytes 01
 10 a.8 copy paused $number" copy attach 'free 1' sync 'put 1 1 1' sync 'get 1' copy
   tells 'it is told' "raidzx: disk$number: cannot be opened: $missing; its disk counts as failed" \
-    "raidzx: disk$number: 1 call failed in this run" "raidzx: disk$number: out of the pool for good"
+    "$paused" 'raidzx: no image was attached, as the copy to 4 images is not done: copy, then attach' "$paused" \
+    "raidzx: disk$number: out of the pool for good"
   shows '3 to 4 mark 0 state none' 0:3 $number 96
   cp full/disk$number .
   runs 'also once it is there again' 0 "0 group 11 after 0
 1 a.1 copy paused $number" copy
-  tells 'it is told' "raidzx: disk$number: out of the pool for good"
+  tells 'it is told' "raidzx: disk$number: its last group is 5, the pool's is 9: it missed what was synced since, and is out for\
+ good" "$paused" "raidzx: disk$number: out of the pool for good"
   reads_wanted "a copy without disk$number"
   other=$(((number + 1) % 4))
   rm disk$other

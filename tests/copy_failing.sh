@@ -67,11 +67,13 @@ lines_of() {
   groups $(($1 + 1)) $(($1 + $2)) 1
   echo "$((1 + $2)) a.1 copy $3"
 }
+# is_paused NUMBER: what is told of a copy that is paused.
+is_paused() { echo "raidzx: the copy is paused, as image $1 is out; all blocks are read as before"; }
 # fails NUMBER FAULT COUNT: this image fails this call. The copy makes so many groups then and is paused, or all four and
 # is done. All blocks are there in that run, and in the next one, which has the same answer.
 fails() {
-  local number=$1 fault=$2 count=$3 answer="paused $1"
-  [ "$count" != 4 ] || answer='done width 4'
+  local number=$1 fault=$2 count=$3 answer="paused $1" paused=("$(is_paused "$1")")
+  [ "$count" != 4 ] || answer='done width 4' paused=()
   back few
   calls copy 'sum 1' 'sum 2' 'sum 3' sync >script
   INPUT=script disturbed disk$number "$fault" "${IMAGES[@]}" -- replay
@@ -81,7 +83,7 @@ $((2 + count)) a.2 sum 1 at $((2 + count)) $first
 $((3 + count)) a.3 sum 2 at $((3 + count)) $second
 $((4 + count)) a.4 sum 3 at $((4 + count)) $third
 $((5 + count)) group $((8 + count)) after $((5 + count))
-$((6 + count)) a.5 sync group $((8 + count))" "raidzx: disk$number: 1 call failed in this run" \
+$((6 + count)) a.5 sync group $((8 + count))" "raidzx: disk$number: 1 call failed in this run" "${paused[@]}" \
     "raidzx: disk$number: out of the pool for good"
   "$RAIDZX" "${IMAGES[@]}" -- replay <on >found 2>told || failed "a copy past disk$number with $fault" "status $?"
   [ "$(cat found)" = "$(lines_of $((10 + count)) 0 "$answer")
@@ -93,26 +95,38 @@ $((6 + count)) a.5 sync group $((8 + count))" "raidzx: disk$number: 1 call faile
 }
 calls copy 'sum 1' 'sum 2' 'sum 3' >on
 # Each call of each image, but for the last two, which make the sync's group: which of them are made before the copy's
-# first, second, third and fourth group is, and in all. An opening reads a ring of 32 slots and a page, writes an
-# uberblock and syncs twice, and so does each commit, which writes a page too. The fill and the drain write 32 sectors
+# first, second, third and fourth group is, and in all. The rings are read at the start (where a read that fails does not
+# matter, see below). An opening reads a ring of 32 slots and a page, writes an uberblock and syncs twice, and so does each commit, which writes a page too. The fill and the drain write 32 sectors
 # each; the last two jobs write 10 and 6, on the new image 9 and 7. The fill reads 43 or 42 of each old image, and none
 # of the new one; the drain reads 32 of each; the last two jobs read 13 and 8, or 9, of each old one. The sums follow.
-for row in '0 pread64 76 108 121 129 150' '1 pread64 76 108 121 129 148' '2 pread64 75 107 120 129 149' \
-  '3 pread64 33 65 65 65 85' '0 pwrite64 33 67 79 87 90' '1 pwrite64 33 67 79 87 90' '2 pwrite64 33 67 79 87 90' \
+for row in '0 pread64 108 140 153 161 182' '1 pread64 108 140 153 161 180' '2 pread64 107 139 152 161 181' \
+  '3 pread64 65 97 97 97 117' '0 pwrite64 33 67 79 87 90' '1 pwrite64 33 67 79 87 90' '2 pwrite64 33 67 79 87 90' \
   '3 pwrite64 33 67 78 87 90' '0 fdatasync 2 4 6 8 11' '1 fdatasync 2 4 6 8 11' '2 fdatasync 2 4 6 8 11' \
   '3 fdatasync 2 4 6 8 11'; do
   set -- $row
-  for when in $(seq "$7"); do
+  first_call=1
+  [ "$2" != pread64 ] || first_call=33
+  for when in $(seq "$first_call" "$7"); do
     count=$(((when > $3) + (when > $4) + (when > $5) + (when > $6)))
     fails "$1" "$2:error=EIO:when=$when" $count
     [ "$2" = pread64 ] || ((when % 10)) || fails "$1" "$2:error=ENOSPC:when=$when" $count
   done
-  printf 'ok each of the %s calls %s of disk%s fails\n' "$7" "$2" "$1"
+  printf 'ok each of the calls %s to %s %s of disk%s fails\n' "$first_call" "$7" "$2" "$1"
 done
+
+# A read that fails at the start changes nothing.
+for when in 1 32; do
+  back few
+  calls copy 'sum 1' >script
+  INPUT=script disturbed disk1 pread64:error=EIO:when=$when "${IMAGES[@]}" -- replay
+  was "disk1 with call $when of pread64" 0 "$(lines_of 7 4 'done width 4')
+6 a.2 sum 1 at 6 $first" 'raidzx: disk1: 1 call failed in this run'
+done
+echo 'ok a read that fails at the start changes nothing'
 
 # Without a sync behind it nothing has recorded that the image is out: the next run copies with it from where the last
 # group stands, and then any one image may go.
-for row in '0 pread64 60 0' '1 pwrite64 20 0' '3 pwrite64 30 0' '1 pwrite64 52 1' '3 pwrite64 40 1' '2 pwrite64 75 2' \
+for row in '0 pread64 92 0' '1 pwrite64 20 0' '3 pwrite64 30 0' '1 pwrite64 52 1' '3 pwrite64 40 1' '2 pwrite64 75 2' \
   '3 pwrite64 75 2' '0 pwrite64 84 3' '3 pwrite64 84 3' '2 fdatasync 4 1' '0 fdatasync 8 3'; do
   set -- $row
   back few
@@ -121,7 +135,7 @@ for row in '0 pread64 60 0' '1 pwrite64 20 0' '3 pwrite64 30 0' '1 pwrite64 52 1
   was "disk$1 with call $3 of $2" 0 "$(lines_of 7 "$4" "paused $1")
 $((2 + $4)) a.2 sum 1 at $((2 + $4)) $first
 $((3 + $4)) a.3 sum 2 at $((3 + $4)) $second
-$((4 + $4)) a.4 sum 3 at $((4 + $4)) $third" "raidzx: disk$1: 1 call failed in this run"
+$((4 + $4)) a.4 sum 3 at $((4 + $4)) $third" "raidzx: disk$1: 1 call failed in this run" "$(is_paused "$1")"
   runs "disk$1 with call $3 of $2, and the next run goes on with it" 0 \
     "$(lines_of $((9 + $4)) $((4 - $4)) 'done width 4')" copy
   without_each 'what it has copied'
@@ -137,6 +151,7 @@ was 'two images fail in a commit of a copy' 4 '0 group 7 after 0
 1 a.1 copy too many failed 0 1
 2 a.2 get 1 too many failed 0 1
 3 a.3 sync too many failed 0 1
-too many failed 0 1' 'raidzx: disk0: 1 call failed in this run' 'raidzx: disk1: 1 call failed in this run'
+too many failed 0 1' 'raidzx: disk0: 1 call failed in this run' 'raidzx: disk1: 1 call failed in this run' \
+  'raidzx: calls not carried out, as too many disks are out: 3; run them again once these are back'
 runs 'the next run copies' 0 "$(lines_of 9 4 'done width 4')" copy
 without_each 'two images that are back'

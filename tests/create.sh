@@ -45,7 +45,8 @@ images 3 256
   expect 'a file that another program has' 4 'too many failed 0' disk0 disk1 disk2 -- "${create[@]}"
 ) 9<>disk0
 
-# An id that is used again: a wider pool of before, of a greater group, takes over, and keeps what it took.
+# An id that is used again: a wider pool of before, of a greater group, would take over; so a run over its image too is
+# refused.
 pool 1 4 256
 calls sync sync >script
 "$RAIDZX" "${IMAGES[@]}" -- run <script >text
@@ -55,7 +56,6 @@ calls 'puthex 7 61' sync >script
 grep -q '1 a.1 put 7 ok' text || failed 'a block in the new pool' "$(cat text)"
 calls 'get 7' >script
 INPUT=script
-expect 'a run over all images opens the pool of before' 0 '0 group 7 after 0
-1 a.1 get 7 at 1 absent' "${IMAGES[@]}" -- run
-expect 'and one over the first ones does so then, too' 0 '0 group 9 after 0
-1 a.1 get 7 at 1 absent' disk0 disk1 disk2 -- run
+expect 'a run over all images is refused' 4 'too many failed 0 1 2' "${IMAGES[@]}" -- run
+expect 'and one over the first ones opens the new pool' 0 '0 group 6 after 0
+1 a.1 get 7 at 1 bytes 61' disk0 disk1 disk2 -- run

@@ -79,7 +79,7 @@ asks() {
 
 settle
 asks --help 'IMAGE.. -- create --parity P'
-asks --version 'format 1'
+for word in -h help --version; do asks $word 'format 1'; done
 use 'the first use builds' yes "$repository/raidzx"
 use 'the second one does not' no "$repository/raidzx"
 use 'it is named from another folder' no ../repository/raidzx

@@ -45,17 +45,17 @@ borne fdatasync EIO 4
 borne fdatasync ENOSPC 4
 borne pwrite64 EIO 4
 borne pwrite64 ENOSPC 4
-borne pread64 EIO 32 # the ring
+borne pread64 EIO 64 # the ring, as it is read at the start and by the opening
 for number in 0 1; do
   back made
-  disturbed "disk$number" pread64:error=EIO:when=33 "${IMAGES[@]}" -- run
+  disturbed "disk$number" pread64:error=EIO:when=65 "${IMAGES[@]}" -- run
   was "the block's sector on disk$number is not read" 0 "$whole" "raidzx: disk$number: 1 call failed in this run"
 done
 echo 'ok a block whose sector is not read is answered'
 
 # A call that moves nothing has failed.
 borne pwrite64 0 4
-borne pread64 0 32
+borne pread64 0 64
 
 # Calls that fail from one on, on two images: too many, and what was synced before is there once they are back.
 strace_two() { # CALL FIRST
@@ -70,7 +70,8 @@ calls 'get 7' 'puthex 8 64' sync 'get 7' >script
 strace_two pwrite64 5 # behind the opening and the put
 was 'two images fail at a sync' 4 "$(printf '%s\n' '0 group 6 after 0' '1 a.1 get 7 at 1 bytes 616263' \
   '2 a.2 put 8 ok' '3 a.3 sync too many failed 0 1' '4 a.4 get 7 too many failed 0 1' 'too many failed 0 1')" \
-  'raidzx: disk0: 1 call failed in this run' 'raidzx: disk1: 1 call failed in this run'
+  'raidzx: disk0: 1 call failed in this run' 'raidzx: disk1: 1 call failed in this run' \
+  'raidzx: calls not carried out, as too many disks are out: 2; run them again once these are back'
 found=$("$RAIDZX" "${IMAGES[@]}" -- run <again 2>told) || failed 'after too many failures' "$found"
 [ "$(answers <<<"$found")" = 'get 7 bytes 616263' ] || failed 'after too many failures' "$found"
 echo 'ok two images fail at a sync: it is refused, and the next run reads what was synced before'
@@ -129,7 +130,8 @@ refused() { # NUMBER FAULT WHY
   back synced
   disturbed "disk$1" "$2" "${IMAGES[@]}" -- run
   was "$2 on disk$1" 4 "too many failed $1" \
-    "raidzx: disk$1: cannot be opened: $3; nothing was done, as the disk may be whole"
+    "raidzx: disk$1: cannot be opened: $3; nothing was done, as the disk may be whole; to go on without it for good,\
+ name in its place a word at which nothing stands"
   unchanged 'no image is touched' synced >/dev/null
 }
 for number in 0 1 2; do
@@ -157,7 +159,8 @@ back synced
 STATUS=0
 (ulimit -n 7 && "$RAIDZX" "${IMAGES[@]}" -- run <script >found 2>told) || STATUS=$?
 was 'few descriptors' 4 'too many failed 1' \
-  'raidzx: disk1: cannot be opened: Too many open files (os error 24); nothing was done, as the disk may be whole'
+  'raidzx: disk1: cannot be opened: Too many open files (os error 24); nothing was done, as the disk may be whole; to go'\
+' on without it for good, name in its place a word at which nothing stands'
 unchanged 'few descriptors leave all as it is' synced
 
 # Every exit status.

@@ -19,7 +19,8 @@ for number in 0 1 2; do
   cp "old/disk$number" .
   shows 3 0:3 $number 3
   reads_wanted "disk$number is an older copy"
-  tells "disk$number is told" "raidzx: disk$number: out of the pool for good"
+  tells "disk$number is told" "raidzx: disk$number: its last group is 4, the pool's is 8: it missed what was synced since,\
+ and is out for good" "raidzx: disk$number: out of the pool for good"
   cmp -s "old/disk$number" "disk$number" || failed "disk$number is an older copy" 'it was written'
   reads_wanted "disk$number is an older copy, in the next run"
 done

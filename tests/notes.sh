@@ -16,7 +16,7 @@ keep made
 rm disk1
 runs 'an image is missing' 0 "$read" 'get 7'
 tells 'it is told, and that it is out' "raidzx: disk1: cannot be opened: $missing; its disk counts as failed" \
-  'raidzx: disk1: 1 call failed in this run' 'raidzx: disk1: out of the pool for good'
+  'raidzx: disk1: out of the pool for good'
 keep without
 cp made/disk1 .
 runs 'it is back' 0 '0 group 8 after 0
@@ -28,29 +28,18 @@ mv disk1 disk8
 mkdir disk1
 runs 'a folder' 0 "$read" 'get 7'
 tells 'is told as one' 'raidzx: disk1: cannot be opened: Is a directory (os error 21); its disk counts as failed' \
-  'raidzx: disk1: 1 call failed in this run' 'raidzx: disk1: out of the pool for good'
+  'raidzx: disk1: out of the pool for good'
 
 back made
 calls 'get 7' >script
 INPUT=script expect 'a misspelt name' 0 "$read" disk0 disk1 dsk2 -- run
 tells 'is told' "raidzx: dsk2: cannot be opened: $missing; its disk counts as failed" \
-  'raidzx: dsk2: 1 call failed in this run' 'raidzx: dsk2: out of the pool for good'
+  'raidzx: dsk2: out of the pool for good'
 
-back made
-INPUT=script expect 'an image less is named' 0 "$read" disk0 disk1 -- run
-tells 'it is told by its number' 'raidzx: image 2, which is not named: out of the pool for good'
-
-back made
-INPUT=script expect 'two images are exchanged' 4 'too many failed 1 2' disk0 disk2 disk1 -- run
-tells 'what these two show is told' 'raidzx: disk2: shows image 2 of pool 9' \
-  'raidzx: disk1: shows image 1 of pool 9'
-unchanged 'and nothing is written' made
-INPUT=script expect 'all are exchanged' 3 'not a pool' disk1 disk2 disk0 -- run
-tells 'the order is told' 'raidzx: disk1: shows image 1 of pool 9' \
-  'raidzx: disk2: shows image 2 of pool 9' 'raidzx: disk0: shows image 0 of pool 9'
-unchanged 'and nothing is written' made
+# (An image in another place, and one that is not named: tests/places.sh.)
 
 # An image that is refused to this program may be whole.
+back made
 if runuser -u nobody -- test -x "$RAIDZX" 2>/dev/null; then
   chmod 755 .
   chmod 666 disk0 disk2
@@ -60,7 +49,8 @@ if runuser -u nobody -- test -x "$RAIDZX" 2>/dev/null; then
   [ "$found_status $(cat found)" = '4 too many failed 1' ] || failed 'an image without permission' "$(cat found)"
   echo 'ok an image without permission'
   tells 'is told' \
-    'raidzx: disk1: cannot be opened: Permission denied (os error 13); nothing was done, as the disk may be whole'
+    'raidzx: disk1: cannot be opened: Permission denied (os error 13); nothing was done, as the disk may be whole; to'\
+' go on without it for good, name in its place a word at which nothing stands'
   unchanged 'and nothing is written' made
 else
   echo 'skipped an image without permission: no other user can be tried here'
@@ -90,6 +80,7 @@ create=(create --parity 1 --width 3 --id 9)
 expect 'a pool with a shorter image' 0 'pool 9 parity 1 width 3 rows 64 group 1' "${IMAGES[@]}" -- "${create[@]}"
 short='raidzx: disk1: has 214 sectors and the longest image 256; it goes out if the pool goes on past its end'
 tells 'it is told' "$short"
+short='raidzx: disk1: has 214 sectors and the pool 256; it goes out if a block lies past its end'
 runs 'a block that lies before its end' 0 '0 group 3 after 0
 1 a.1 put 1 ok
 2 group 4 after 2
@@ -100,6 +91,14 @@ runs 'a block that lies beyond its end' 0 '0 group 6 after 0
 2 group 7 after 2
 3 a.2 sync group 7' 'put 2 20000 1' sync
 tells 'is one' "$short" 'raidzx: disk1: 1 call failed in this run' 'raidzx: disk1: out of the pool for good'
+
+# An image that is longer than the pool's is none of it yet, and no pool's image is told to be short.
+pool 1 3 256
+fresh disk3 300
+IMAGES+=(disk3)
+runs 'a longer image is named behind the pool' 0 '0 group 3 after 0'
+tells 'nothing is told'
+rm disk3
 
 # More images than the width.
 images 4 256
@@ -160,6 +159,25 @@ wrong 2 'clients 1\na attach 7\n' 'sync, attach and copy have nothing behind the
 wrong 2 'clients 1\na copy 7\n' 'sync, attach and copy have nothing behind them'
 wrong 2 'clients 1\norder ab\n' '`order LETTERS`: letters of the clients side by side, one at least'
 
+# What was not carried out is told at the end, with what to do.
+pool 1 3 256
+for ((number = 0; number < 66; number++)); do echo "a put $number 512 1"; done >puts
+{ calls; cat puts; echo 'a put 7 65536 1'; echo 'a attach'; } >script
+"$RAIDZX" "${IMAGES[@]}" -- run <script >found 2>told || failed 'calls that are refused' "$(cat found)"
+tells 'calls that are refused' 'raidzx: no image was attached: 3 are named and the pool has 3; name it behind them, up to 16' \
+  'raidzx: puts without room: 1; the largest wanted 192 free sectors side by side: free blocks and sync, then put them again'
+{ calls; for ((number = 0; number < 513; number++)); do echo "a puthex $number 61"; done; } >script
+images 3 1000
+"$RAIDZX" "${IMAGES[@]}" -- "${create[@]}" >/dev/null
+"$RAIDZX" "${IMAGES[@]}" -- run <script >found 2>told || failed 'a pool of 512 blocks' "$(tail -n 3 found)"
+tells 'a pool of 512 blocks' 'raidzx: puts refused, as the pool has 512 blocks: 1; free others and put them again'
+images 3 200
+expect 'images that are too small' 5 'too small' "${IMAGES[@]}" -- "${create[@]}"
+tells 'how large they have to be' \
+  'raidzx: the longest image has 200 sectors of 512 bytes, and a pool takes 256: make each 131072 bytes at least'
+expect 'too few images' 5 'too small' disk0 disk1 -- "${create[@]}"
+tells 'how many there have to be' 'raidzx: 2 images are named, and the width is 3'
+
 # What the words of a command are.
 expect 'an option in another place' 1 usage disk0 disk1 -- create --width 3 --parity 1 --id 9
 grep -q '^raidzx: usage: raidzx IMAGE.. -- create --parity P --width W --id N$' told || failed usage "$(cat told)"
@@ -171,3 +189,8 @@ grep -q '^raidzx: usage: raidzx IMAGE.. -- status$' told || failed usage "$(cat 
 expect 'a command that there is not' 1 usage disk0 disk1 -- sweep
 [ "$(grep -c '^raidzx: usage: ' told)" = 4 ] || failed usage "$(cat told)"
 echo 'ok the form of the command that was meant is told'
+for word in --help -h help --version; do
+  expect "who asks by $word" 1 usage $word
+  "$ROOT/raidzx" $word 2>page >/dev/null || true
+  cmp -s told page || failed "who asks by $word" "$(cat told)"
+done

@@ -1,3 +1,4 @@
 pub mod LastGroups
 pub mod Listed
 pub mod Slots
+pub mod Together

@@ -3,9 +3,10 @@ ghost use Rattle.bank_trait.specs.Disk.{Unchanged};
 
 use crate::bank::FileBank;
 use crate::notes::{
-    note_failed_calls, note_further, note_out, note_seen, note_taken, note_unknown,
+    note_failed_calls, note_further, note_out, note_taken, note_too_small, note_unknown,
 };
 use crate::seen::{out_for_good, seen_anywhere, seen_in_place};
+use crate::undone::tell_undone;
 use bank_trait::Bank;
 use core_state::{Answer, Item, Journal};
 use raidzx_top::{Outcome, Status};
@@ -34,22 +35,6 @@ fn tell_further<R: Eprint, B: Bank>(rt: &R, names: &[String], width: usize, bank
         };
         if device as usize >= width {
             note_further(rt, name, width, seen_in_place(bank, device));
-        }
-    }
-}
-
-/// What the images show that are not in their places.
-#[tactic(auto, using(core_open::proofs::Unchanged::unchanged_none, core_open::proofs::Unchanged::unchanged_then))]
-fn tell_seen<R: Eprint, B: Bank>(rt: &R, names: &[String], bank: &mut B)
-    ensures { Unchanged (B.disk bank.old) (B.disk bank.new) }
-{
-    for device in 0..bank.devices() {
-        let Some(name) = names.get(device as usize) else {
-            return;
-        };
-        match seen_anywhere(bank, device) {
-            Some(seen) if seen.place != device => note_seen(rt, name, seen),
-            _ => {}
         }
     }
 }
@@ -99,32 +84,29 @@ fn tell_of_create<R: Eprint, B: Bank>(
 )
     ensures { Unchanged (B.disk bank.old) (B.disk bank.new) }
 {
-    if status == Status::Done {
-        tell_further(rt, names, width, bank);
+    match status {
+        Status::Done => tell_further(rt, names, width, bank),
+        Status::TooSmall => note_too_small(rt, names.len(), width, bank.sectors()),
+        _ => {}
     }
 }
 
-/// What a run or a look has left to tell: what images show, where there was no pool, or which were taken and which are
-/// out for good.
+/// What a run has left to tell: which images were taken, and which are out for good.
 #[tactic(auto, using(core_open::proofs::Unchanged::unchanged_none, core_open::proofs::Unchanged::unchanged_then))]
 fn tell_of_run<R: Eprint, B: Bank>(
     rt: &R,
     alloc: Global,
     names: &[String],
-    status: Status,
     journal: &Journal,
     bank: &mut B,
 )
     ensures { Unchanged (B.disk bank.old) (B.disk bank.new) }
 {
     if journal.is_empty() {
-        match status {
-            Status::NotPool | Status::TooManyFailed { out: _ } => tell_seen(rt, names, bank),
-            _ => {}
-        }
         return;
     }
     tell_taken(rt, names, journal, bank);
+    tell_undone(rt, names, journal);
     match out_for_good(alloc, bank, journal) {
         Ok(out) => note_out(rt, names, out),
         Err(_) => note_unknown(rt),
@@ -138,20 +120,14 @@ pub fn tell_files<R: Eprint>(
     alloc: Global,
     names: &[String],
     command: &[String],
+    lengths: &[u64],
     outcome: Outcome<FileBank>,
 ) {
     let mut bank = outcome.bank;
-    note_failed_calls(rt, names, &bank);
+    note_failed_calls(rt, names, lengths, &bank);
     match width_of(command) {
         Some(width) => tell_of_create(rt, names, width, outcome.status, &mut bank),
-        None => tell_of_run(
-            rt,
-            alloc,
-            names,
-            outcome.status,
-            &outcome.journal,
-            &mut bank,
-        ),
+        None => tell_of_run(rt, alloc, names, &outcome.journal, &mut bank),
     }
     let _kept = ManuallyDrop::new(outcome.journal);
 }

@@ -7,24 +7,36 @@ ghost use Rattle.raidzx.specs.Images.{image_contents};
 
 mod after;
 mod bank;
+mod door;
+mod door_notes;
+mod entry;
 mod files;
+mod help;
 mod hints;
+mod lives;
 mod notes;
 mod opening;
+mod order;
+mod places;
 mod seen;
+mod sightings;
+mod standing;
 mod streams;
+mod undone;
 mod usage;
 
 use after::tell_files;
 use bank::{FileBank, bank_over};
 use bank_mem::MemBank;
 use bank_trait::Bank;
+use entry::let_in;
 use hints::hint_line;
-use notes::{note_lengths, note_unopened};
+use notes::note_unopened;
 use opening::{Access, Unopened, access_for, open_image};
 use pool_live::OpenGate;
 use raidzx_top::{
-    Outcome, Status, TOO_MANY_FAILED, image_words, raidzx, read_command, write_status,
+    Outcome, ServedCommand, Status, TOO_MANY_FAILED, image_words, raidzx, read_command,
+    write_status,
 };
 use std::alloc::{AllocFailed, Global};
 use std::env;
@@ -53,6 +65,13 @@ impl<T: Drop> From<AllocFailed<T>> for NoBank {
     }
 }
 
+/// Images that were opened, and how many sectors each has: 0 where it could not be opened.
+#[derive(Drop)]
+struct Opened {
+    bank: FileBank,
+    lengths: Vec<u64>,
+}
+
 /// Opens the files that the words from the second on name, so many of them, in this order, and tells why one could not
 /// be opened. At the first one that another program has, or that this one is refused, it stops: of two programs that
 /// want to change the same images one gets them all.
@@ -61,29 +80,38 @@ fn open_files(
     words: &[String],
     count: u32,
     access: Access,
-) -> Result<FileBank, NoBank>
+) -> Result<Opened, NoBank>
     requires { count + 1 < length words.now }
-    ensures devices { IfOk result (λ bank. (disk_of image_contents bank).devices ≡ count) }
+    ensures devices { IfOk result (λ opened. (disk_of image_contents opened.bank).devices ≡ count) }
 {
     let alloc = rt.alloc();
     let mut images = Vec::new(alloc);
     let mut faults = Vec::new(alloc);
+    let mut lengths = Vec::new(alloc);
     for device in 0..count {
         let name = words[device as usize + 1].as_str();
         match open_image(rt, name, access) {
-            Ok(image) => images.push(Some(image))?,
+            Ok(image) => {
+                lengths.push(image.sectors())?;
+                images.push(Some(image))?;
+            }
             Err(why) => {
                 note_unopened(rt, name, &why);
                 match why {
-                    Unopened::Failed(_) => images.push(None)?,
+                    Unopened::Failed(_) => {
+                        lengths.push(0)?;
+                        images.push(None)?;
+                    }
                     _ => return Err(NoBank::Refused { device }),
                 }
             }
         }
         faults.push(0)?;
     }
-    note_lengths(rt, &words[1..], &images);
-    Ok(bank_over(images, faults))
+    Ok(Opened {
+        bank: bank_over(images, faults),
+        lengths,
+    })
 }
 
 /// Carries out the command over a bank, with threads of this handle, and tells what is wrong with a script that is
@@ -115,6 +143,27 @@ fn run_over<R: Threads + Wait + Sync, B: Bank + Drop + Send>(
         hint_line(rt, line, why);
     }
     outcome
+}
+
+/// Carries out a command over files, if it is let in, and tells what a user has to know.
+fn serve_files<R: Threads + Wait + Sync>(
+    rt: &HostRuntime,
+    threads: &R,
+    names: &[String],
+    command: &[String],
+    served: ServedCommand,
+    opened: Opened,
+) -> ExitCode {
+    let alloc = rt.alloc();
+    let lengths = opened.lengths;
+    let mut bank = opened.bank;
+    if let Err(status) = let_in(rt, alloc, names, command, served, &lengths, &mut bank) {
+        return end(rt, status);
+    }
+    let outcome = run_over(rt, threads, command, bank);
+    let code = outcome.status.code();
+    tell_files(rt, alloc, names, command, &lengths, outcome);
+    ExitCode::from(code)
 }
 
 /// Ends the program before there is a bank.
@@ -165,17 +214,15 @@ fn main(rt: HostRuntime) -> ExitCode {
             Err(_) => end(&rt, Status::NoMemory),
         },
         None => match open_files(&rt, &words, count, access_for(served)) {
-            Ok(bank) => {
-                let outcome = run_over(&rt, &rt, command, bank);
-                let code = outcome.status.code();
-                tell_files(
+            Ok(opened) => {
+                serve_files(
                     &rt,
-                    rt.alloc(),
+                    &rt,
                     &words[1..images.count + 1],
                     command,
-                    outcome,
-                );
-                ExitCode::from(code)
+                    served,
+                    opened,
+                )
             }
             Err(NoBank::Refused { device }) => end_refused(&rt, device),
             Err(NoBank::NoMemory) => end(&rt, Status::NoMemory),

@@ -1,7 +1,6 @@
 // What a user is told of each image, on standard error: one line each. A line that can't be written changes nothing.
 
 use crate::bank::FileBank;
-use crate::files::Image;
 use crate::opening::Unopened;
 use crate::seen::Seen;
 use bank_trait::Bank;
@@ -14,7 +13,8 @@ pub fn note_unopened<R: Eprint>(rt: &R, name: &str, why: &Unopened) {
             "raidzx: {name}: another program has it, or it is named twice; nothing was done"
         ),
         Unopened::Refused(error) => eprintln!(rt;
-            "raidzx: {name}: cannot be opened: {error}; nothing was done, as the disk may be whole"
+            "raidzx: {name}: cannot be opened: {error}; nothing was done, as the disk may be whole; to go on without it \
+            for good, name in its place a word at which nothing stands"
         ),
         Unopened::Failed(error) => eprintln!(rt;
             "raidzx: {name}: cannot be opened: {error}; its disk counts as failed"
@@ -22,39 +22,42 @@ pub fn note_unopened<R: Eprint>(rt: &R, name: &str, why: &Unopened) {
     };
 }
 
-/// The sectors of the longest image; none where no image could be opened.
-fn longest(images: &[Option<Image>]) -> u64 {
+/// Of a `create`: which images are shorter than the longest, which tells how long the pool's are.
+pub fn note_lengths<R: Eprint>(rt: &R, names: &[String], lengths: &[u64]) {
     let mut most = 0;
-    for image in images {
-        if let Some(image) = image {
-            most = image.sectors().max(most);
-        }
+    for length in lengths {
+        most = (*length).max(most);
     }
-    most
-}
-
-/// Which images are shorter than the longest. That one may be longer than the pool.
-pub fn note_lengths<R: Eprint>(rt: &R, names: &[String], images: &[Option<Image>]) {
-    let most = longest(images);
-    for (name, image) in names.iter().zip(images.iter()) {
-        if let Some(image) = image {
-            let sectors = image.sectors();
-            if sectors < most {
-                let _ = eprintln!(rt;
-                    "raidzx: {name}: has {sectors} sectors and the longest image {most}; it goes out if the pool goes \
-                    on past its end"
-                );
-            }
+    for (name, length) in names.iter().zip(lengths.iter()) {
+        if 0 < *length && *length < most {
+            let _ = eprintln!(rt;
+                "raidzx: {name}: has {length} sectors and the longest image {most}; it goes out if the pool goes on \
+                past its end"
+            );
         }
     }
 }
 
-/// The images whose calls failed.
-pub fn note_failed_calls<R: Eprint>(rt: &R, names: &[String], bank: &FileBank) {
+/// Which images end before this sector, where a disk of their pool ends.
+pub fn note_short<R: Eprint>(rt: &R, names: &[String], lengths: &[u64], disks: u32, sectors: u64) {
+    for (name, length) in names.iter().zip(lengths.iter()).take(disks as usize) {
+        if 0 < *length && *length < sectors {
+            let _ = eprintln!(rt;
+                "raidzx: {name}: has {length} sectors and the pool {sectors}; it goes out if a block lies past its end"
+            );
+        }
+    }
+}
+
+/// The images whose calls failed. One that could not be opened is told as such.
+pub fn note_failed_calls<R: Eprint>(rt: &R, names: &[String], lengths: &[u64], bank: &FileBank) {
     for device in 0..bank.devices() {
         let Some(name) = names.get(device as usize) else {
             return;
         };
+        if lengths.get(device as usize) == Some(&0) {
+            continue;
+        }
         let _ = match bank.faults(device) {
             0 => Ok(()),
             1 => eprintln!(rt; "raidzx: {name}: 1 call failed in this run"),
@@ -96,18 +99,22 @@ pub fn note_further<R: Eprint>(rt: &R, name: &str, width: usize, seen: Option<Se
     };
 }
 
+/// Why no pool was made on so many images, of which the longest has so many sectors.
+pub fn note_too_small<R: Eprint>(rt: &R, images: usize, width: usize, sectors: u64) {
+    if images < width {
+        let _ = eprintln!(rt; "raidzx: {images} images are named, and the width is {width}");
+    } else {
+        let _ = eprintln!(rt;
+            "raidzx: the longest image has {sectors} sectors of 512 bytes, and a pool takes 256: make each 131072 bytes \
+            at least"
+        );
+    }
+}
+
 /// What an image shows that was not attached for it.
 pub fn note_taken<R: Eprint>(rt: &R, name: &str, seen: Seen) {
     let _ = eprintln!(rt;
         "raidzx: {name}: not attached, as it shows image {} of pool {}; nothing was written to it",
-        seen.place, seen.pool
-    );
-}
-
-/// What an image shows that a run could not take it for.
-pub fn note_seen<R: Eprint>(rt: &R, name: &str, seen: Seen) {
-    let _ = eprintln!(rt;
-        "raidzx: {name}: shows image {} of pool {}",
         seen.place, seen.pool
     );
 }

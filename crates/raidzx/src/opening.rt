@@ -29,12 +29,15 @@ pub enum Unopened {
     Failed(Error),
 }
 
-/// Whether an error tells of this program, and not of a disk: it has no permission, no memory or no descriptor left.
+/// Whether an error tells of this program or its system, and not of a disk: it has no permission, no memory or no
+/// descriptor left, the file system may be read alone, or the system has the disk for itself. (A file system becomes one
+/// that may be read alone when its disk fails, and it may be whole all the same.)
 fn is_of_program(error: &Error) -> bool
     ensures { IsTrue result ↔ IsOfProgram error.now }
 {
     match error.kind() {
         ErrorKind::PermissionDenied | ErrorKind::OutOfMemory => true,
+        ErrorKind::ReadOnlyFilesystem | ErrorKind::ResourceBusy => true,
         _ => match error.raw_os_error() {
             Some(code) => code == NONE_LEFT_IN_SYSTEM || code == NONE_LEFT_IN_PROGRAM,
             None => false,

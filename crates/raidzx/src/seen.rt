@@ -38,7 +38,7 @@ fn last_group(journal: &Journal) -> Option<u64>
 }
 
 /// The bytes of this slot of a device's ring.
-fn read_slot<B: Bank>(bank: &mut B, device: u32, slot: u32) -> Option<[u8; 512]>
+pub fn read_slot<B: Bank>(bank: &mut B, device: u32, slot: u32) -> Option<[u8; 512]>
     requires { device < (B.disk bank.old).devices }
     ensures unchanged { Unchanged (B.disk bank.old) (B.disk bank.new) }
     ensures on_device { OnSome result (slot < (B.disk bank.old).sectors) }

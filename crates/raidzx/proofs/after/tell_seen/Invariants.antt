@@ -1,5 +1,0 @@
-use Rattle.bank_trait.specs.Disk.{Unchanged}
-use Rattle.raidzx.proofs.after.tell_seen.Given as goal
-
-abbrev pub invariant-loop-device : goal.invariant-loop-device
-invariant-loop-device g l = Unchanged (g.B.Bank.disk l.fn.bank) (g.B.Bank.disk l.bank)

@@ -1,0 +1,5 @@
+use Rattle.bank_trait.specs.Disk.{Unchanged}
+use Rattle.raidzx.proofs.sightings.see.Given as goal
+
+abbrev pub invariant-loop-place : goal.invariant-loop-place
+invariant-loop-place g l = Unchanged (g.B.Bank.disk l.fn.bank) (g.B.Bank.disk l.bank)

@@ -1,0 +1,74 @@
+// How a command over files is let in, and what is told before it is carried out.
+ghost use Rattle.bank_trait.specs.Disk.{Unchanged};
+
+use crate::door::{Pool, Survey, look_around, refused_places};
+use crate::door_notes::{tell_status, tell_survey};
+use crate::notes::{note_lengths, note_short};
+use crate::sightings::greatest;
+use bank_trait::Bank;
+use raidzx_top::{ServedCommand, Status};
+use std::alloc::Global;
+use uberblock_ring::{DeviceSet, Uber};
+use width_map::FIRST_DATA_SECTOR;
+
+/// Looks at the images, by reads alone, and tells what is not as it should be. A command that changes a pool is refused
+/// where a slip in the words would cost a disk.
+#[tactic(auto, using(core_open::proofs::Unchanged::unchanged_none, core_open::proofs::Unchanged::unchanged_then))]
+pub fn let_in<R: Eprint, B: Bank>(
+    rt: &R,
+    alloc: Global,
+    names: &[String],
+    command: &[String],
+    served: ServedCommand,
+    lengths: &[u64],
+    bank: &mut B,
+) -> Result<(), Status>
+    ensures { Unchanged (B.disk bank.old) (B.disk bank.new) }
+{
+    if makes_pool(served) {
+        note_lengths(rt, names, lengths);
+        return Ok(());
+    }
+    let is_look = served == ServedCommand::Status;
+    let Ok(seen) = look_around(alloc, bank, is_look) else {
+        return Err(Status::NoMemory);
+    };
+    let refused = if is_look {
+        DeviceSet::empty()
+    } else {
+        refused_places(&seen)
+    };
+    tell_survey(rt, alloc, names, command, &seen, refused);
+    if !refused.is_empty() {
+        return Err(Status::TooManyFailed { out: refused });
+    }
+    tell_short(rt, names, lengths, &seen);
+    if is_look {
+        tell_status(rt, names, &seen);
+    }
+    Ok(())
+}
+
+fn makes_pool(served: ServedCommand) -> bool {
+    match served {
+        ServedCommand::Create(_) => true,
+        _ => false,
+    }
+}
+
+/// Which images end before the pool does that they show.
+fn tell_short<R: Eprint>(rt: &R, names: &[String], lengths: &[u64], seen: &Survey) {
+    if let Some(uber) = uber_of(seen) {
+        let reflow = uber.reflow();
+        let sectors = reflow.rows.saturating_add(FIRST_DATA_SECTOR);
+        note_short(rt, names, lengths, reflow.to, sectors);
+    }
+}
+
+/// An uberblock of the pool that the images show.
+fn uber_of(seen: &Survey) -> Option<Uber> {
+    match &seen.pool {
+        Pool::Chosen(known) | Pool::Likely(known) => Some(known.uber),
+        Pool::Untold => greatest(&seen.sightings.list, None),
+    }
+}

@@ -1,0 +1,133 @@
+// What of a run was not carried out, and what to do then, on standard error.
+
+use core_state::{Answer, Item, Journal};
+
+/// How many calls were refused for each reason.
+#[derive(Clone, Copy, Debug, PartialEq, Eq)]
+struct Undone {
+    no_space: u64,
+    /// The most free sectors that were wanted side by side.
+    sectors: u64,
+    full: u64,
+    damaged: u64,
+    too_many: u64,
+    no_memory: u64,
+    limit: u64,
+}
+
+impl Undone {
+    fn none() -> Undone {
+        Undone {
+            no_space: 0,
+            sectors: 0,
+            full: 0,
+            damaged: 0,
+            too_many: 0,
+            no_memory: 0,
+            limit: 0,
+        }
+    }
+
+    fn count(&mut self, answer: &Answer) {
+        match answer {
+            Answer::NoSpace { sectors } => {
+                one_more(&mut self.no_space);
+                self.sectors = (*sectors).max(self.sectors);
+            }
+            Answer::Full => one_more(&mut self.full),
+            Answer::Damaged => one_more(&mut self.damaged),
+            Answer::TooManyFailed { out: _ } => one_more(&mut self.too_many),
+            Answer::NoMemory => one_more(&mut self.no_memory),
+            Answer::Limit { reached: _ } => one_more(&mut self.limit),
+            _ => {}
+        }
+    }
+}
+
+fn one_more(count: &mut u64) {
+    *count = (*count).saturating_add(1);
+}
+
+/// Tells what calls of a run were refused, and what to do.
+pub fn tell_undone<R: Eprint>(rt: &R, names: &[String], journal: &Journal) {
+    let mut undone = Undone::none();
+    for item in journal.as_slice() {
+        if let Item::Call(entry) = item {
+            undone.count(&entry.answer);
+            note_widening(rt, names, &entry.answer);
+        }
+    }
+    note_puts(rt, &undone);
+    note_others(rt, &undone);
+}
+
+/// Why no image was attached, or no more is moved.
+fn note_widening<R: Eprint>(rt: &R, names: &[String], answer: &Answer) {
+    let _ = match answer {
+        Answer::Expanding { to } => eprintln!(rt;
+            "raidzx: no image was attached, as the copy to {to} images is not done: copy, then attach"
+        ),
+        Answer::DeviceOut { device } => eprintln!(rt;
+            "raidzx: no image was attached, as image {device} is out: a pool grows while all its disks are in use"
+        ),
+        Answer::NoDevice { devices, width } => eprintln!(rt;
+            "raidzx: no image was attached: {devices} are named and the pool has {width}; name it behind them, up to 16"
+        ),
+        Answer::NewDeviceFailed { device } => match names.get(*device as usize) {
+            Some(name) => eprintln!(rt;
+                "raidzx: {name}: not attached: a call on it failed, or it is shorter than the pool's; no image of the \
+                pool is out for it"
+            ),
+            None => Ok(()),
+        },
+        Answer::Paused { device } => eprintln!(rt;
+            "raidzx: the copy is paused, as image {device} is out; all blocks are read as before"
+        ),
+        _ => Ok(()),
+    };
+}
+
+/// Which puts were refused.
+fn note_puts<R: Eprint>(rt: &R, undone: &Undone) {
+    if undone.no_space > 0 {
+        let _ = eprintln!(rt;
+            "raidzx: puts without room: {}; the largest wanted {} free sectors side by side: free blocks and sync, then \
+            put them again",
+            undone.no_space, undone.sectors
+        );
+    }
+    if undone.full > 0 {
+        let _ = eprintln!(rt;
+            "raidzx: puts refused, as the pool has 512 blocks: {}; free others and put them again",
+            undone.full
+        );
+    }
+}
+
+/// Which other calls were refused.
+fn note_others<R: Eprint>(rt: &R, undone: &Undone) {
+    if undone.damaged > 0 {
+        let _ = eprintln!(rt;
+            "raidzx: reads that found wrong bytes: {}; the manual tells at `damaged` how to find the image that gives them",
+            undone.damaged
+        );
+    }
+    if undone.too_many > 0 {
+        let _ = eprintln!(rt;
+            "raidzx: calls not carried out, as too many disks are out: {}; run them again once these are back",
+            undone.too_many
+        );
+    }
+    if undone.no_memory > 0 {
+        let _ = eprintln!(rt;
+            "raidzx: calls not carried out for want of memory: {}; run them again with more memory, or fewer in a script",
+            undone.no_memory
+        );
+    }
+    if undone.limit > 0 {
+        let _ = eprintln!(rt;
+            "raidzx: calls refused, as the last group number is used up: {}; make a new pool and copy the blocks to it",
+            undone.limit
+        );
+    }
+}
