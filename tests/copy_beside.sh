@@ -83,17 +83,19 @@ for number in 0 1 7 8; do
   without_each "the blocks of a client beside two copies, in order $number"
 done
 
-# replays NAME TEXT LINE..: a script of these lines is replayed on the images as they were kept in FROM.
+# replays NAME TEXT LINE..: a script of these lines is replayed on the images as they were kept in FROM. Standard error
+# has the lines TOLD.
 replays() {
   local name=$1 text=$2
   shift 2
   back $FROM
   printf '%s\n' "$@" >script
   INPUT=script expect "$name" 0 "$text" "${IMAGES[@]}" -- replay
-  tells 'nothing is told'
+  tells "what is told: $name" "${TOLD[@]}"
 }
 # While the fill has sectors 0 to 127, a block is put behind them, and synced. It lies there when all is copied.
 FROM=attached
+TOLD=('raidzx: no image was attached, as the copy to 4 images is not done: copy, then attach')
 replays 'a put and a sync beside the fill' "0 group 7 after 0
 1 b.1 put 1 ok
 2 group 8 after 2
@@ -102,6 +104,7 @@ replays 'a put and a sync beside the fill' "0 group 7 after 0
 5 b.4 attach expanding to 4
 $(groups 9 12 6)
 10 a.1 copy done width 4" 'clients 2' 'a copy' 'b puthex 1 61' 'b sync' 'b get 1' 'b attach' "order a$(turns b 40)"
+TOLD=()
 bytes 61 | filled 512 >letter
 WIDTH=4
 lies 128 letter letter

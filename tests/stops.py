@@ -8,7 +8,7 @@ all blocks (`reads`). Each FILE holds the answers to it that are those of this g
 A stop after some of the calls keeps each write that its device has synced since. Of the others it may keep all,
 none, single ones, parts, or leave other bytes there. Whatever it left, the next run has to answer the blocks of a
 group that is not older than the last one synced by then, also where one more image is gone. Where images are
-attached, a run over the old ones alone has to do so too.
+attached, a run has to do so without them too; where no word stands for one that the pool has, it is refused.
 Where the folder has a script that copies and then reads all blocks (`copies`), each state that a stop left is opened
 without each one of the images in turn, and the run behind the one over all images copies: it has to end the expansion
 to the width that the group chosen has, and to answer the same blocks, as has a run behind it without one of the images.
@@ -106,10 +106,15 @@ def left(synced, loose, parts):
     return stopped
 
 
-def run(script, named, name):
-    """The lines of a replay of a script over the first so many images, as they stand in the folder."""
+def replay(script, named):
+    """Replays a script over the first so many images, as they stand in the folder."""
     words = [program] + [str(folder / f'disk{device}') for device in range(named)] + ['--', 'replay']
-    ran = subprocess.run(words, stdin=open(folder / script), capture_output=True, text=True)
+    return subprocess.run(words, stdin=open(folder / script), capture_output=True, text=True)
+
+
+def run(script, named, name):
+    """The lines of such a replay."""
+    ran = replay(script, named)
     if ran.returncode != 0:
         fail(f'{name}: status {ran.returncode}, {ran.stdout}')
     return ran.stdout.splitlines()
@@ -119,18 +124,36 @@ def read_in(lines):
     return ''.join(' '.join(match.groups()) + '\n' for match in map(ANSWER.match, lines) if match)
 
 
-def look(stopped, named, lowest, highest, name):
-    """Opens the first so many images; the answers have to be those of one group of these, which is given."""
+def put_back(stopped):
     for device in range(devices):
         file = folder / f'disk{device}'
         file.unlink(missing_ok=True)
         if device in stopped:
             file.write_bytes(stopped[device])
+
+
+def look(stopped, named, lowest, highest, name):
+    """Opens the first so many images; the answers have to be those of one group of these, which is given."""
+    put_back(stopped)
     lines = run('reads', named, name)
     chosen = int(lines[0].split()[2]) - 2
     if not lowest <= chosen <= highest or read_in(lines) != answers[chosen]:
         fail(f'{name}: group {chosen}, of groups {lowest} to {highest}, {lines}')
     return chosen
+
+
+def look_at_old(stopped, lowest, highest, name):
+    """Opens the old images, with a word for each other one; then without, which is refused where the pool has these."""
+    alone = {device: image for device, image in stopped.items() if device < old}
+    width = widths[look(alone, devices, lowest, highest, name)]
+    if width <= old:
+        look(stopped, old, lowest, highest, f'{name}, and no others named')
+        return
+    put_back(stopped)
+    refused = replay('reads', old)
+    wanted = 'too many failed ' + ' '.join(str(device) for device in range(old, width)) + '\n'
+    if (refused.returncode, refused.stdout) != (4, wanted) or images(folder) != stopped:
+        fail(f'{name}, and no others named: status {refused.returncode}, {refused.stdout}')
 
 
 def copy_on(chosen, gone, name):
@@ -157,7 +180,7 @@ def looks(stopped, name):
     if copies and len(stopped) == devices:
         copy_on(chosen, opened % devices, f'{name}, and copied')
     if old < devices:
-        look(stopped, old, lowest, highest, f'{name}, and with the old images alone')
+        look_at_old(stopped, lowest, highest, f'{name}, and with the old images alone')
     for gone in range(devices) if copies else [gone]:
         if len(stopped) == devices and gone in stopped:
             fewer = {device: image for device, image in stopped.items() if device != gone}

@@ -1,20 +1,22 @@
 -- A run may begin on a bank that has further devices, or more sectors, than the one that kept the groups.
-use Rattle.std.proofs.Common.{◌≡◌, ◌≢◌, ⊎_elim, ℕ, ◌+◌, ◌<◌, ◌≤◌, List, ◌∷◌, Some, refl, sym, ap, subst, arith}
+use Rattle.std.proofs.Common.{get_or, ◌≡◌, ◌≢◌, ⊎_elim, ℕ, ◌+◌, ◌<◌, ◌≤◌, List, ◌∷◌, Some, refl, sym, ap, subst, arith}
 use Rattle.std.specs.Prelude.{Contains, min}
 use Rattle.std.proofs.lemmas.Bool.{cases_lt}
 use Rattle.std.proofs.lemmas.Bool.Decides.{nat_tests}
 use Rattle.std.proofs.lemmas.List.Elements.{All-contains}
 use Rattle.bank_trait.specs.Disk.{Image, Disk}
+use Rattle.bank_trait.specs.Regions.{Tells}
 use Rattle.block_record.specs.declared.entry.IndexEntry.{IndexEntry}
 use Rattle.uberblock_ring.specs.Uberblock.{Uber, encoded, slot_of}
 use Rattle.uberblock_ring.specs.Valid.{AreAlike}
 use Rattle.core_state.specs.Shown.{Gives, IsCandidate, Shape, Shows, read_devices}
-use Rattle.core_state.specs.Keeps.{HasWidthIn, IsKept, IsNotOutvoted, Keeps, Kept, Setting}
-use Rattle.core_state.specs.Collision.{MightStand}
+use Rattle.core_state.specs.Choosing.{Names}
+use Rattle.core_state.specs.Keeps.{HasWidthIn, IsKept, IsNotOutvoted, Keeps, Kept, NamesOther, Setting}
+use Rattle.core_state.specs.Collision.{HasNoOtherPage, MightStand}
 use Rattle.core_state.proofs.Places.{asks_device, right_widths}
-use Rattle.core_open.specs.Holds.{shape_of}
+use Rattle.core_open.specs.Holds.{HoldsImage, shape_of}
 use Rattle.core_open.specs.Opening.{MayBegin}
-use Rattle.core_open.specs.Adding.{MayBeAdded, setting_on}
+use Rattle.core_open.specs.Adding.{BeginsWith, MayBeAdded, setting_on}
 
 -- A slot is one of the first 32 sectors.
 slot_below : (group sectors : ℕ) → 32 ≤ sectors → slot_of group < sectors
@@ -138,21 +140,22 @@ module _ (setting : Setting) (shape : Shape) (devices : setting.shape.devices �
           → IsCandidate shape 0 setting.pool image device uber first.entries
       candidate device uber is = wider_candidate setting.shape shape devices sectors image 0 setting.pool device uber first.entries is
 
+-- What might stand on a further bank might stand on the one that it begins with.
+might_before : (old new : Disk) → BeginsWith old new → (image : Image) → MightStand (shape_of new) new new.clock image
+    → MightStand (shape_of old) old old.clock image
+might_before old new begins image might = record {
+  fits = record { at = λ d x bytes is. might.fits.at d x bytes (begins.leaves d x bytes is) };
+  written = record {
+    ring = λ device uber shows.
+        let low : device < old.devices = (let in_old = shows.device_in in grind (arith, nat_tests, in_old)) in
+        begins.could device (slot_of uber.group) (encoded uber device) low shows.slot_in
+        (might.written.ring device uber
+        (wider_shows (shape_of old) (shape_of new) begins.devices begins.sectors image device uber shows));
+  };
+}
+
 module _ (setting : Setting) (first : Kept) (later : List Kept) (old new : Disk)
     (may : MayBegin setting first later old) (added : MayBeAdded setting (first ∷ later) old new) where
-  -- What might stand on the further bank might stand on the one that it begins with.
-  stood : (image : Image) → MightStand (shape_of new) new new.clock image → MightStand (shape_of old) old old.clock image
-  stood image might = record {
-    fits = record { at = λ d x bytes is. might.fits.at d x bytes (added.begins.leaves d x bytes is) };
-    written = record {
-      ring = λ device uber shows.
-          let low : device < old.devices = (let in_old = shows.device_in in grind (arith, nat_tests, in_old)) in
-          added.begins.could device (slot_of uber.group) (encoded uber device) low shows.slot_in
-          (might.written.ring device uber
-          (wider_shows (shape_of old) (shape_of new) added.begins.devices added.begins.sectors image device uber shows));
-    };
-  }
-
   shape_is : setting.shape ≡ shape_of old
   shape_is = may.may.shape
 
@@ -170,7 +173,8 @@ module _ (setting : Setting) (first : Kept) (later : List Kept) (old new : Disk)
       (let whole = added.pool in omega (arith, old_devices, whole)) image
       (λ device uber outside shows. added.blank image device uber might (omega (arith, old_devices, outside)) shows)
       (added.votes image might) first later
-      (may.may.keeps image (subst (λ (s : Shape). MightStand s old old.clock image) (sym shape_is) (stood image might)))
+      (may.may.keeps image (subst (λ (s : Shape). MightStand s old old.clock image) (sym shape_is)
+      (might_before old new added.begins image might)))
 
   -- Law: A run may begin on a bank that has further devices, or more sectors, than the one that kept the groups.
   pub added_begins : MayBegin (setting_on setting new) first later new
@@ -184,4 +188,46 @@ module _ (setting : Setting) (first : Kept) (later : List Kept) (old new : Disk)
     };
     excepted = may.excepted;
     bytes = may.bytes;
+  }
+
+-- Devices that show no uberblock at all may be added: nobody names another pool by them.
+module _ (setting : Setting) (first : Kept) (later : List Kept) (old new : Disk)
+    (may : MayBegin setting first later old) (begins : BeginsWith old new) (pool : setting.reach ≤ old.devices)
+    (none : (image : Image) (device : ℕ) (uber : Uber) → MightStand (shape_of new) new new.clock image
+    → old.devices ≤ device → Shows (shape_of new) image device uber → ⊥) where
+  named_before : (image : Image) → MightStand (shape_of new) new new.clock image → 32 ≤ old.sectors → (other device : ℕ)
+      → NamesOther (setting_on setting new) image other device → NamesOther setting image other device
+  named_before image might enough other device names = record {
+    outside = names.outside;
+    names = subst (λ (s : Shape). Names s 0 image other device) (sym may.may.shape) (record {
+      reads = names.names.reads;
+      uber = names.names.uber;
+      shows = ⊎_elim
+          (λ (inside : device < old.devices). narrower_shows (shape_of old) (shape_of new) begins.devices begins.sectors
+          image enough device names.names.uber inside names.names.shows)
+          (λ (outside : old.devices ≤ device). absurd (none image device names.names.uber might outside names.names.shows))
+          (cases_lt device old.devices);
+      greatest = λ uber shows. names.names.greatest uber
+          (wider_shows (shape_of old) (shape_of new) begins.devices begins.sectors image device uber shows);
+      pool_is = names.names.pool_is;
+    });
+  }
+
+  -- Law: Devices that show no uberblock may be added to a bank that keeps groups.
+  pub blank_devices_may_be_added : Tells new
+      → ((image : Image) → HoldsImage new image → HasNoOtherPage (setting_on setting new) (first ∷ later) image)
+      → MayBeAdded setting (first ∷ later) old new
+  blank_devices_may_be_added tells pages = record {
+    begins = begins;
+    pool = pool;
+    blank = λ image device uber might outside shows pool_is. none image device uber might outside shows;
+    votes = λ image might other others apart distinct named.
+        let stood = might_before old new begins image might in
+        let keeps = may.may.keeps image (subst (λ (s : Shape). MightStand s old old.clock image) (sym may.may.shape) stood) in
+        let sectors = ap (λ (s : Shape). s.sectors) may.may.shape in
+        let room = keeps.there.shown.2.room in
+        keeps.votes other others apart distinct
+        (λ k d within. named_before image might (omega (arith, room, sectors)) other (get_or others k d) (named k d within));
+    tells = tells;
+    pages = pages;
   }
