@@ -1,7 +1,7 @@
 #!/usr/bin/env bash
 # The drawing of the crates shows those that there are, and the lines of crates.txt that do not follow from others; the
-# list of clauses is that of the sources, and the clauses that are promised are in it; no bullet of a crate's README is
-# long; the manual page is shown without a warning.
+# list of clauses is that of the sources, and the clauses that are promised are in it; the manual tells each note of the
+# program, and is shown without a warning; no bullet of a crate's README is long.
 set -eu
 WORK=$(mktemp -d)
 trap 'rm -rf "$WORK"' EXIT
@@ -56,6 +56,11 @@ if python3 --version >/dev/null 2>&1; then
   echo 'ok the clauses that are promised'
   python3 docs/clauses.py --cited crates/*/README.md || failed 'a clause that a README tells is not there'
   echo 'ok the clauses that the READMEs tell'
+  # What is told of words that are no command shows forms of words, as the manual's first lines do.
+  sources=$(printf '%s\n' crates/raidzx/src/*.rt | grep -v -e /usage.rt -e /help.rt)
+  said=$(python3 tests/manual.py docs/raidzx.1 $sources)
+  [ -z "$said" ] || failed "the manual does not tell: $said"
+  echo 'ok the notes of the program, which the manual tells'
 else
   echo 'skipped the list of clauses: python3 is not installed'
 fi

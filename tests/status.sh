@@ -103,20 +103,49 @@ chmod 644 disk*
 images 3 256
 looks 'images without a pool' 3 'not a pool'
 
-# The calls on each image: it is opened to be read, asked whether it is a folder, measured, read and closed.
+# A pipe would keep who opens it waiting.
+pool 1 3 256
+mkfifo pipe
+RAIDZX_ALONE=$RAIDZX
+limited() { timeout 20 "$RAIDZX_ALONE" "$@"; }
+RAIDZX=limited looks 'a pipe' 0 "$(lines 1 1 0)" disk0 pipe disk2
+told_line 'it is told' 'raidzx: pipe: cannot be opened: Illegal seek (os error 29); its disk counts as failed'
+
+# Looks beside runs that sync over and over: each finds the pool, and takes no disk for one that is out where it tells
+# what a disk is.
+mapfile -t many < <(for number in $(seq 200); do printf '%s\n' "put 7 3 $number" sync; done)
+calls "${many[@]}" >script
+(while [ ! -e enough ]; do "$RAIDZX" "${IMAGES[@]}" -- run <script >text || exit; done) &
+running=$!
+busy=0
+for number in $(seq 1000); do
+  "$RAIDZX" "${IMAGES[@]}" -- status >found 2>told || failed "look $number beside a run" "$(cat found told)"
+  [ "$(sed -n 2p found)" = 'width 3' ] || failed "look $number beside a run" "$(cat found)"
+  if grep -q '^raidzx: another program writes to these images' told; then
+    busy=$((busy + 1))
+  else
+    [ "$(sed -n 4p found)" = 'out none' ] && [ "$(grep -c ': in use$' told)" = 3 ] ||
+      failed "look $number beside a run" "$(cat found told)"
+  fi
+done
+touch enough
+wait $running || failed 'a run beside looks' "$(tail -n 1 text)"
+echo "ok 1000 looks beside a run, of which $busy had no moment in which nothing changed"
+
+# The calls on each image: it is asked whether it is a folder or a pipe, opened to be read, measured, read and closed.
 if command -v strace >/dev/null && strace -o /dev/null true 2>/dev/null; then
   pool 1 3 256
   strace -f -y -s 0 -e trace=%desc -o trace "$RAIDZX" "${IMAGES[@]}" -- status >text
   sed -nE -e 's/^[0-9]+ +//' \
     -e 's/^openat\(.*"(disk.)", O_RDONLY\|O_NOCTTY\|O_CLOEXEC\) = .*/open \1/' \
-    -e 's/^(statx|newfstatat|fstat)\(.*(disk.)>, .* = 0$/kind \2/' \
+    -e 's/^(statx|newfstatat|stat)\(.*"(disk.)", .* = 0$/kind \2/' \
     -e 's/^lseek\(.*(disk.)>, 0, SEEK_END\) += [0-9]+$/measure \1/' \
     -e 's/^pread64\(.*(disk.)>, ""..., 512, ([0-9]*)\) += 512$/read \1 \2/' \
     -e 's/^close\(.*(disk.)>\) += 0$/close \1/' -e '/disk/p' trace |
     awk '$1 == "read" && $3 % 512 == 0 { $3 /= 512 } { print }' >found
   {
-    for number in 0 1 2; do printf "%s disk$number\n" open kind measure; done
-    for _ in 1 2 3; do # to see what each image shows, to choose, and by the status itself
+    for number in 0 1 2; do printf "%s disk$number\n" kind open measure; done
+    for _ in 1 2 3 4; do # to see what each image shows, to choose, by the status itself, and whether they have changed
       for number in 0 1 2; do printf "read disk$number %s\n" $(seq 0 31); done
     done
     for number in 0 1 2; do echo "close disk$number"; done

@@ -29,24 +29,30 @@ pub fn let_in<R: Eprint, B: Bank>(
         note_lengths(rt, names, lengths);
         return Ok(());
     }
-    let is_look = served == ServedCommand::Status;
-    let Ok(seen) = look_around(alloc, bank, is_look) else {
+    let Ok(survey) = look_around(alloc, bank, false) else {
         return Err(Status::NoMemory);
     };
-    let refused = if is_look {
-        DeviceSet::empty()
-    } else {
-        refused_places(&seen)
-    };
-    tell_survey(rt, alloc, names, command, &seen, refused);
+    let refused = refused_places(&survey);
+    tell_survey(rt, alloc, names, command, &survey, refused);
     if !refused.is_empty() {
         return Err(Status::TooManyFailed { out: refused });
     }
-    tell_short(rt, names, lengths, &seen);
-    if is_look {
-        tell_status(rt, names, &seen);
-    }
+    tell_short(rt, names, lengths, &survey);
     Ok(())
+}
+
+/// What a status has to tell beside its lines.
+pub fn tell_look<R: Eprint>(
+    rt: &R,
+    alloc: Global,
+    names: &[String],
+    command: &[String],
+    lengths: &[u64],
+    survey: &Survey,
+) {
+    tell_survey(rt, alloc, names, command, survey, DeviceSet::empty());
+    tell_short(rt, names, lengths, survey);
+    tell_status(rt, names, survey);
 }
 
 fn makes_pool(served: ServedCommand) -> bool {

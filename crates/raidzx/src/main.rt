@@ -14,6 +14,7 @@ mod files;
 mod help;
 mod hints;
 mod lives;
+mod looks;
 mod notes;
 mod opening;
 mod order;
@@ -28,10 +29,11 @@ mod usage;
 use after::tell_files;
 use bank::{FileBank, bank_over};
 use bank_mem::MemBank;
-use bank_trait::Bank;
-use entry::let_in;
+use bank_trait::{Bank, Sink};
+use entry::{let_in, tell_look};
 use hints::hint_line;
-use notes::note_unopened;
+use looks::look_until_quiet;
+use notes::{note_busy, note_failed_calls, note_unopened};
 use opening::{Access, Unopened, access_for, open_image};
 use pool_live::OpenGate;
 use raidzx_top::{
@@ -40,7 +42,7 @@ use raidzx_top::{
 };
 use std::alloc::{AllocFailed, Global};
 use std::env;
-use std::io::{self, ErrorKind};
+use std::io::{self, ErrorKind, Printer, Write};
 use std::process::ExitCode;
 use std::sync::Wait;
 use std::thread::Threads;
@@ -116,18 +118,15 @@ fn open_files(
 
 /// Carries out the command over a bank, with threads of this handle, and tells what is wrong with a script that is
 /// refused.
-fn run_over<R: Threads + Wait + Sync, B: Bank + Drop + Send>(
+fn run_over<R: Threads + Wait + Sync, B: Bank + Drop + Send, K: Sink>(
     rt: &HostRuntime,
     threads: &R,
     words: &[String],
     bank: B,
+    out: &mut K,
 ) -> Outcome<B> {
     let mut script = Input {
         inner: rt.reader(),
-        faults: 0,
-    };
-    let mut out = Output {
-        inner: io::writer(rt),
         faults: 0,
     };
     let outcome = raidzx(
@@ -136,7 +135,7 @@ fn run_over<R: Threads + Wait + Sync, B: Bank + Drop + Send>(
         words,
         bank,
         &mut script,
-        &mut out,
+        out,
         &OpenGate,
     );
     if let Status::ScriptFault { line, why } = outcome.status {
@@ -145,7 +144,15 @@ fn run_over<R: Threads + Wait + Sync, B: Bank + Drop + Send>(
     outcome
 }
 
-/// Carries out a command over files, if it is let in, and tells what a user has to know.
+/// Standard output.
+fn output(rt: &HostRuntime) -> Output<Printer<'_, HostRuntime>> {
+    Output {
+        inner: io::writer(rt),
+        faults: 0,
+    }
+}
+
+/// Carries out a command that changes files, if it is let in, and tells what a user has to know.
 fn serve_files<R: Threads + Wait + Sync>(
     rt: &HostRuntime,
     threads: &R,
@@ -160,19 +167,49 @@ fn serve_files<R: Threads + Wait + Sync>(
     if let Err(status) = let_in(rt, alloc, names, command, served, &lengths, &mut bank) {
         return end(rt, status);
     }
-    let outcome = run_over(rt, threads, command, bank);
+    let outcome = run_over(rt, threads, command, bank, &mut output(rt));
     let code = outcome.status.code();
     tell_files(rt, alloc, names, command, &lengths, outcome);
     ExitCode::from(code)
 }
 
+/// Looks at files, and tells what they show.
+fn serve_look<R: Threads + Wait + Sync>(
+    rt: &HostRuntime,
+    threads: &R,
+    names: &[String],
+    command: &[String],
+    opened: Opened,
+) -> ExitCode {
+    let Ok(look) = look_until_quiet(rt, threads, command, opened.bank) else {
+        return end(rt, Status::NoMemory);
+    };
+    if look.is_quiet {
+        tell_look(
+            rt,
+            rt.alloc(),
+            names,
+            command,
+            &opened.lengths,
+            &look.survey,
+        );
+    } else {
+        note_busy(rt);
+    }
+    if look.text.faults > 0 {
+        return end(rt, Status::NoMemory);
+    }
+    let code = match io::writer(rt).write_all(&look.text.inner) {
+        Ok(()) => look.outcome.status.code(),
+        Err(_) => Status::SinkFault.code(),
+    };
+    note_failed_calls(rt, names, &opened.lengths, &look.outcome.bank);
+    ExitCode::from(code)
+}
+
 /// Ends the program before there is a bank.
 fn end(rt: &HostRuntime, status: Status) -> ExitCode {
-    let mut out = Output {
-        inner: io::writer(rt),
-        faults: 0,
-    };
-    let _ = write_status(&mut out, &status);
+    let _ = write_status(&mut output(rt), &status);
     ExitCode::from(status.code())
 }
 
@@ -210,22 +247,23 @@ fn main(rt: HostRuntime) -> ExitCode {
     };
     match images.memory {
         Some(sectors) => match MemBank::new(rt.alloc(), count, sectors) {
-            Ok(bank) => ExitCode::from(run_over(&rt, &rt, command, bank).status.code()),
+            Ok(bank) => {
+                let outcome = run_over(&rt, &rt, command, bank, &mut output(&rt));
+                ExitCode::from(outcome.status.code())
+            }
             Err(_) => end(&rt, Status::NoMemory),
         },
-        None => match open_files(&rt, &words, count, access_for(served)) {
-            Ok(opened) => {
-                serve_files(
-                    &rt,
-                    &rt,
-                    &words[1..images.count + 1],
-                    command,
-                    served,
-                    opened,
-                )
+        None => {
+            let names = &words[1..images.count + 1];
+            let access = access_for(served);
+            match (open_files(&rt, &words, count, access), access) {
+                (Ok(opened), Access::Look) => serve_look(&rt, &rt, names, command, opened),
+                (Ok(opened), Access::Change) => {
+                    serve_files(&rt, &rt, names, command, served, opened)
+                }
+                (Err(NoBank::Refused { device }), _) => end_refused(&rt, device),
+                (Err(NoBank::NoMemory), _) => end(&rt, Status::NoMemory),
             }
-            Err(NoBank::Refused { device }) => end_refused(&rt, device),
-            Err(NoBank::NoMemory) => end(&rt, Status::NoMemory),
-        },
+        }
     }
 }

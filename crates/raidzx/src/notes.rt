@@ -22,6 +22,14 @@ pub fn note_unopened<R: Eprint>(rt: &R, name: &str, why: &Unopened) {
     };
 }
 
+/// That a look was made while the images were written.
+pub fn note_busy<R: Eprint>(rt: &R) {
+    let _ = eprintln!(rt;
+        "raidzx: another program writes to these images, and they changed in each look: a disk that is told as out may \
+        be in use; look again when it has ended"
+    );
+}
+
 /// Of a `create`: which images are shorter than the longest, which tells how long the pool's are.
 pub fn note_lengths<R: Eprint>(rt: &R, names: &[String], lengths: &[u64]) {
     let mut most = 0;

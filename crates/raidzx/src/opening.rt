@@ -7,8 +7,9 @@ ghost use Rattle.raidzx.specs.Opening.{IsJust, IsOfProgram};
 
 use crate::files::Image;
 use raidzx_top::ServedCommand;
-use std::fs::{File, Files, OpenOptions, TryLockError};
+use std::fs::{self, File, Files, OpenOptions, TryLockError};
 use std::io::{Error, ErrorKind, Seek, SeekFrom};
+use std::os::unix::fs::FileTypeExt;
 
 /// The system's numbers for no descriptor left in all of it, and in this program.
 const NONE_LEFT_IN_SYSTEM: i32 = 23;
@@ -17,6 +18,9 @@ const NONE_LEFT_IN_PROGRAM: i32 = 24;
 
 /// The system's number for a folder where a file is wanted.
 const IS_A_FOLDER: i32 = 21;
+
+/// The system's number for a pipe where a file is wanted, in which places can be sought.
+const IS_A_PIPE: i32 = 29;
 
 /// Why an image can't be used.
 #[derive(Drop)]
@@ -90,18 +94,18 @@ pub fn open_image<R: Files<File = File>>(
     }
 }
 
-/// Opens a file for reading alone, without a lock: nothing is written to it, and whoever has it goes on. A folder can
-/// be opened so, and is none.
+/// Opens a file for reading alone, without a lock: nothing is written to it, and whoever has it goes on. A folder and a
+/// pipe can be opened so, and are none; the opening of a pipe may wait for ever.
 fn open_to_read<R: Files<File = File>>(rt: &R, name: &str) -> Result<Image, Unopened>
     ensures { IfErr result IsJust }
 {
-    let file = match OpenOptions::new().read(true).open(rt, name) {
-        Ok(file) => file,
-        Err(error) => return Err(why(error)),
-    };
-    match file.metadata() {
+    match fs::metadata(rt, name) {
         Ok(found) if found.is_dir() => Err(why(Error::from_raw_os_error(IS_A_FOLDER))),
-        Ok(_) => measured(file),
+        Ok(found) if found.file_type().is_fifo() => Err(why(Error::from_raw_os_error(IS_A_PIPE))),
+        Ok(_) => match OpenOptions::new().read(true).open(rt, name) {
+            Ok(file) => measured(file),
+            Err(error) => Err(why(error)),
+        },
         Err(error) => Err(why(error)),
     }
 }

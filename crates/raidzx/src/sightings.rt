@@ -28,6 +28,13 @@ pub struct Sightings {
     pub unread: DeviceSet,
 }
 
+impl Sightings {
+    /// Whether the images show nothing else.
+    pub fn is_same(&self, other: &Sightings) -> bool {
+        self.list == other.list && self.unread == other.unread
+    }
+}
+
 /// Reads the rings of the images.
 #[tactic(auto, using(core_open::proofs::Unchanged::unchanged_none, core_open::proofs::Unchanged::unchanged_then))]
 pub fn see<B: Bank>(alloc: Global, bank: &mut B) -> Result<Sightings, AllocError>
