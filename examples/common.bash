@@ -26,24 +26,22 @@ number() {
   [[ $2 =~ ^(0|[1-9][0-9]{0,17})$ ]] || stop "$1 is the number of a block, 0 or above, not '$2'"
 }
 
-# range FIRST LAST: ends unless these are numbers of blocks, in order, and not too many to try each.
-range() {
-  number FIRST "$1"
-  number LAST "$2"
-  (($1 <= $2)) || stop "LAST is below FIRST: $1 $2"
-  (($2 - $1 < 1000000)) || stop "FIRST to LAST are more than 1000000 blocks"
-}
-
 # start WORD..: starts the program. Its output is in $work/text and its status in `status`. What it tells on standard
-# error is passed on, each line once, however many runs of it tell the same; but for what a status tells of images that are
-# well, or that another line tells.
+# error is passed on, each line once, however many runs of it tell the same; but for what a status tells of a pool that is
+# well. `ranges` are the numbers of the blocks that it has told.
 declare -A told=()
 start() {
   local line
   status=0
+  ranges=
   "$raidzx" "$@" 2>&1 >"$work/text" | while IFS= read -r line; do
     case $line in
       *': in use' | *': cannot be read' | 'raidzx: all blocks can be read'*) continue ;;
+      'raidzx: '*' sectors are used; '*) continue ;;
+      'raidzx: blocks '*)
+        ranges=${line#raidzx: blocks }
+        continue
+        ;;
     esac
     [ -n "${told[-$line]-}" ] || printf '%s\n' "$line" >&2
     told[-$line]=told
@@ -67,12 +65,13 @@ carry_out() {
 }
 
 # look IMAGE..: ends unless these images show a pool that can be read. Nothing is written to them. Sets `pool`, its
-# number, `out`, the images that are out, and `blocks`, how many it has.
+# number, `out`, the images that are out, `blocks`, how many it has, and `ranges`, their numbers.
 look() {
   carry_out "$@" -- status
   pool=$(sed -n 's/^pool \([0-9]*\) .*/\1/p' "$work/text")
   out=$(sed -n 's/^out //p' "$work/text")
   blocks=$(sed -n 's/^blocks //p' "$work/text")
+  [ "$blocks" = "$(list_ids | wc -l)" ] || stop 'the pool changes meanwhile: try again when no program is at work on it'
 }
 
 # calls CALL FIRST LAST: a call of the client for each of these blocks, as lines of a script.
@@ -93,30 +92,32 @@ read_head() {
   name=${name//[[:cntrl:]]/?}
 }
 
-# find_heads FIRST LAST IMAGE..: finds the heads among these blocks. They are in $work/heads, a line for each: its
-# number and its bytes in hexadecimal digits. `seen` is how many blocks there are in the range.
+# list_ids: the numbers of the pool's blocks, a line each, as the last look has told them in ranges.
+list_ids() {
+  local range
+  for range in $ranges; do seq "${range%-*}" "${range#*-}"; done
+}
+
+# sum_calls: a sum of the client for each of the blocks of $work/ids that may be a head, as lines of a script.
+sum_calls() { sed -nE '/^.{1,18}$/s/^/a sum /p' "$work/ids"; }
+
+# find_heads IMAGE..: finds the heads among the blocks of $work/ids, at most 10,000. They are in $work/heads, a line for
+# each: its number and its bytes in hexadecimal digits.
 find_heads() {
-  local first=$1 last=$2 from to id
-  shift 2
+  local id length digits
   : >"$work/heads"
-  seen=0
-  # A script has at most 10,000 calls.
-  for ((from = first; from <= last; from = to + 1)); do
-    to=$((from + 9999 < last ? from + 9999 : last))
-    { echo 'clients 1' && calls sum "$from" "$to"; } >"$work/script"
-    carry_out "$@" -- run <"$work/script"
-    sed -n 's/.* sum \([0-9]*\) at [0-9]* damaged$/\1/p' "$work/text" >"$work/damaged"
-    while read -r id; do say "block $id is damaged"; done <"$work/damaged"
-    sed -n 's/.* sum \([0-9]*\) at [0-9]* length \([0-9]*\) .*/\1 \2/p' "$work/text" >"$work/sums"
-    seen=$((seen + $(wc -l <"$work/sums") + $(wc -l <"$work/damaged")))
-    { echo 'clients 1' && while read -r id length; do
-      ((length >= head_limit)) || echo "a get $id"
-    done <"$work/sums"; } >"$work/script"
-    carry_out "$@" -- run <"$work/script"
-    sed -n 's/.* get \([0-9]*\) at [0-9]* bytes \(.*\)/\1 \2/p' "$work/text" >"$work/small"
-    while read -r id digits; do
-      tr a-f A-F <<<"$digits" | basenc --base16 -d >"$work/head"
-      if read_head "$work/head"; then echo "$id $digits" >>"$work/heads"; fi
-    done <"$work/small"
-  done
+  { echo 'clients 1' && sum_calls; } >"$work/script"
+  carry_out "$@" -- run <"$work/script"
+  sed -n 's/.* sum \([0-9]*\) at [0-9]* damaged$/\1/p' "$work/text" >"$work/damaged"
+  while read -r id; do say "block $id is damaged"; done <"$work/damaged"
+  sed -n 's/.* sum \([0-9]*\) at [0-9]* length \([0-9]*\) .*/\1 \2/p' "$work/text" >"$work/sums"
+  { echo 'clients 1' && while read -r id length; do
+    ((length >= head_limit)) || echo "a get $id"
+  done <"$work/sums"; } >"$work/script"
+  carry_out "$@" -- run <"$work/script"
+  sed -n 's/.* get \([0-9]*\) at [0-9]* bytes \(.*\)/\1 \2/p' "$work/text" >"$work/small"
+  while read -r id digits; do
+    tr a-f A-F <<<"$digits" | basenc --base16 -d >"$work/head"
+    if read_head "$work/head"; then echo "$id $digits" >>"$work/heads"; fi
+  done <"$work/small"
 }

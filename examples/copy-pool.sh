@@ -1,18 +1,14 @@
 #!/usr/bin/env bash
-# Copies blocks FIRST to LAST of a pool into another one: copy-pool.sh FIRST LAST OLD-IMAGE.. -- NEW-IMAGE..
+# Copies all blocks of a pool into another one: copy-pool.sh OLD-IMAGE.. -- NEW-IMAGE..
 #
 # That is the way to a whole pool once an image is out for good: create a pool with an id that was never used, on other
 # images, then copy. This creates none: the new pool has to be there, with all of its images. There it replaces the
 # blocks of the same numbers, leaves all others alone, and frees none.
 #
-# At the end it compares the sums of all blocks that were copied. The exit status is 0 where each block in the range was
-# read and is the same in both pools. Where a block can't be read it is told, and the others are copied.
+# At the end it compares the sums of all blocks that were copied. The exit status is 0 where each block was read and is
+# the same in both pools. Where a block can't be read it is told, and the others are copied.
 . "$(dirname "$0")/common.bash"
-usage='usage: copy-pool.sh FIRST LAST OLD-IMAGE.. -- NEW-IMAGE..'
-[ $# -ge 5 ] || stop "$usage"
-first=$1
-last=$2
-shift 2
+usage='usage: copy-pool.sh OLD-IMAGE.. -- NEW-IMAGE..'
 old=()
 while [ $# -gt 0 ] && [ "$1" != -- ]; do
   old+=("$1")
@@ -41,8 +37,8 @@ sum_all() {
   done
 }
 
-range "$first" "$last"
 look "${old[@]}"
+list_ids >"$work/old_ids"
 old_pool=$pool
 old_blocks=$blocks
 start "${new[@]}" -- status
@@ -50,9 +46,9 @@ start "${new[@]}" -- status
 look "${new[@]}"
 [ "$out" = none ] || stop "images of the new pool are out: $out"
 [ "$pool" != "$old_pool" ] || stop "both pools have the id $pool: give a new pool an id of its own"
-say "blocks $first to $last of pool $old_pool, which has $old_blocks blocks, to pool $pool"
+say "$old_blocks blocks of pool $old_pool, to pool $pool"
 
-seq "$first" "$last" >"$work/ids"
+mv "$work/old_ids" "$work/ids"
 sum_all "${old[@]}"
 mv "$work/sums" "$work/old"
 mv "$work/unread" "$work/not_read"

@@ -1,17 +1,13 @@
 #!/usr/bin/env bash
-# Lists the files that store-file.sh has stored in a pool: list-files.sh FIRST LAST IMAGE..
+# Lists the files that store-file.sh has stored in a pool: list-files.sh IMAGE..
 #
-# A line for each file: its first block, its bytes, its name. It looks at blocks FIRST to LAST only, at most a million,
-# as the program doesn't list the numbers of a pool's blocks. It tells how many of the pool's blocks these are.
+# A line for each file: its first block, its bytes, its name.
 . "$(dirname "$0")/common.bash"
-[ $# -ge 3 ] || stop 'usage: list-files.sh FIRST LAST IMAGE..'
-first=$1
-last=$2
-images=("${@:3}")
+[ $# -ge 1 ] || stop 'usage: list-files.sh IMAGE..'
 
-range "$first" "$last"
-look "${images[@]}"
-find_heads "$first" "$last" "${images[@]}"
+look "$@"
+list_ids >"$work/ids"
+find_heads "$@"
 files=0
 end=-1
 while read -r id digits; do
@@ -28,4 +24,4 @@ while read -r id digits; do
   end=$((id + pieces))
 done <"$work/heads"
 [ $files = 1 ] && word=file || word=files
-say "$files $word; $seen of the pool's $blocks blocks are in this range"
+say "$files $word; the pool has $blocks blocks"

@@ -52,7 +52,8 @@ old_pieces=-1
 if read_head "$work/head"; then
   old_pieces=$pieces
   if [ "$kind" = part ]; then
-    find_heads $((first + 1)) $((first + old_pieces)) "${images[@]}"
+    seq $((first + 1)) $((first + old_pieces)) >"$work/ids"
+    find_heads "${images[@]}"
     [ ! -s "$work/heads" ] ||
       stop "block $(cut -d ' ' -f 1 "$work/heads" | head -n 1) is the head of another file: free it, or block $first"
   fi

@@ -124,20 +124,20 @@ done
 does 'files are listed, without an image' 0 "1000 5 a letter
 2000 65536 block
 3000 0 empty
-4000 $many many" "list-files: 4 files; $blocks of the pool's $blocks blocks are in this range" \
-  list-files.sh 0 20000 "${IMAGES[@]}"
+4000 $many many" "list-files: 4 files; the pool has $blocks blocks" \
+  list-files.sh "${IMAGES[@]}"
 
 # Into a whole pool, once an image is out.
 new=(new0 new1 new2)
 rm -f "${new[@]}"
 truncate -s 16M "${new[@]}"
 does 'no pool is made for a copy' 1 '' 'copy-pool: the new pool is not there: create it first' \
-  copy-pool.sh 0 20000 "${IMAGES[@]}" -- "${new[@]}"
+  copy-pool.sh "${IMAGES[@]}" -- "${new[@]}"
 "$RAIDZX" "${new[@]}" -- create --parity 1 --width 3 --id 11 >/dev/null
 does 'a pool is not copied into itself' 1 '' 'copy-pool: both pools have the id 11: give a new pool an id of its own' \
-  copy-pool.sh 0 20000 "${new[@]}" -- "${new[@]}"
+  copy-pool.sh "${new[@]}" -- "${new[@]}"
 does 'a pool is copied' 0 '' "copy-pool: copied $blocks blocks: each has the same sum in both pools" \
-  copy-pool.sh 0 20000 "${IMAGES[@]}" -- "${new[@]}"
+  copy-pool.sh "${IMAGES[@]}" -- "${new[@]}"
 IMAGES=("${new[@]}")
 rm new0
 first=1000
@@ -147,7 +147,7 @@ for file in files/*; do
 done
 echo 'ok the copy gives the files, also without an image'
 does 'no copy into a pool that has an image out' 1 '' 'copy-pool: images of the new pool are out: 0' \
-  copy-pool.sh 0 20000 disk0 disk1 disk2 -- "${IMAGES[@]}"
+  copy-pool.sh disk0 disk1 disk2 -- "${IMAGES[@]}"
 
 # A small pool: a new file over an older one, and what finds no room.
 IMAGES=(disk0 disk1 disk2)
@@ -185,8 +185,8 @@ chmod +x stopping
 RAIDZX=$WORK/stopping store 'a store that is cut short' 1 'the program ended with status 9: ' files/longer 100
 does 'it leaves no file' 1 '' 'read-file: block 100: longer was not stored to its end, store it again' \
   read-file.sh 100 "${IMAGES[@]}"
-does 'nor is one listed' 0 '' "list-files: 0 files; 6 of the pool's 6 blocks are in this range" \
-  list-files.sh 0 1000 "${IMAGES[@]}"
+does 'nor is one listed' 0 '' "list-files: 0 files; the pool has 6 blocks" \
+  list-files.sh "${IMAGES[@]}"
 store 'it is stored again' 0 'a letter, 5 bytes: blocks 100 to 101' 'files/a letter' 100
 holds 2
 
@@ -203,14 +203,13 @@ store 'a file that is not there' 1 'files/none: no file that can be read' files/
 store 'a wrong number' 1 "FIRST is the number of a block, 0 or above, not '08'" files/block 08
 does 'no block' 1 '' 'read-file: there is no block 7' read-file.sh 7 "${IMAGES[@]}"
 does 'a block that is no head' 1 '' 'read-file: block 101 is not the head of a file' read-file.sh 101 "${IMAGES[@]}"
-does 'no range' 1 '' 'list-files: LAST is below FIRST: 9 8' list-files.sh 9 8 "${IMAGES[@]}"
-for words in 'store-file FILE FIRST IMAGE..' 'read-file FIRST IMAGE..' 'list-files FIRST LAST IMAGE..' \
-  'copy-pool FIRST LAST OLD-IMAGE.. -- NEW-IMAGE..'; do
+for words in 'store-file FILE FIRST IMAGE..' 'read-file FIRST IMAGE..' 'list-files IMAGE..' \
+  'copy-pool OLD-IMAGE.. -- NEW-IMAGE..'; do
   name=${words%% *}
   does "the usage of $name" 1 '' "$name: usage: $name.sh ${words#* }" "$name.sh"
 done
 truncate -s 512K blank0 blank1
-for words in 'store-file.sh files/block 7' 'read-file.sh 7' 'list-files.sh 0 9'; do
+for words in 'store-file.sh files/block 7' 'read-file.sh 7' list-files.sh; do
   name=${words%%.*}
   does "$name with no pool" 1 '' "$name: no pool is on these images" $words blank0 blank1
   RAIDZX=$WORK/none does "$name with no program" 1 '' \

@@ -12,7 +12,8 @@ use crate::places::{both, wrong_places};
 use crate::sightings::{Sighting, Sightings, greatest, last_at, see};
 use crate::standing::{Known, is_behind};
 use bank_trait::Bank;
-use core_open::look;
+use block_record::IndexEntry;
+use core_open::find;
 use std::alloc::{AllocError, Global};
 use uberblock_ring::{DeviceSet, Uber};
 
@@ -32,9 +33,11 @@ pub enum Pool {
 pub struct Survey {
     pub sightings: Sightings,
     pub pool: Pool,
+    /// The blocks of the pool that an opening chooses.
+    pub entries: Vec<IndexEntry>,
 }
 
-/// Looks at the images, by reads alone. Each ring is read once, and once more by a look, unless all is plainly well and
+/// Looks at the images, by reads alone. Each ring is read once, and once more to choose, unless all is plainly well and
 /// not everything is asked for.
 #[tactic(auto, using(core_open::proofs::Unchanged::unchanged_none, core_open::proofs::Unchanged::unchanged_then))]
 pub fn look_around<B: Bank>(
@@ -50,13 +53,27 @@ pub fn look_around<B: Bank>(
         return Ok(Survey {
             sightings,
             pool: Pool::Untold,
+            entries: Vec::new(alloc),
         });
     }
-    let pool = match look(alloc, bank) {
-        Ok(seen) => Pool::Chosen(Known::by_look(named, &sightings, &seen)),
-        Err(_) => likely_pool(&sightings, named),
-    };
-    Ok(Survey { sightings, pool })
+    match find(alloc, bank) {
+        Ok(found) if !found.has_too_many_out() => {
+            let pool = Pool::Chosen(Known::by_found(named, &sightings, &found));
+            Ok(Survey {
+                sightings,
+                pool,
+                entries: found.entries,
+            })
+        }
+        _ => {
+            let pool = likely_pool(&sightings, named);
+            Ok(Survey {
+                sightings,
+                pool,
+                entries: Vec::new(alloc),
+            })
+        }
+    }
 }
 
 /// The pool that most images show, in whichever place.

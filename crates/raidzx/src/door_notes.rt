@@ -2,8 +2,10 @@
 
 use crate::door::{Pool, Survey};
 use crate::order::{is_shown, ordered_words, right_order};
+use crate::room::{ranges_of, room_of};
 use crate::sightings::LOOKED_AT;
 use crate::standing::{Known, Standing, standing_of};
+use block_record::IndexEntry;
 use std::alloc::Global;
 use uberblock_ring::DeviceSet;
 
@@ -71,7 +73,7 @@ fn note_standing<R: Eprint>(rt: &R, name: &str, place: u32, known: &Known, stand
 }
 
 /// Of a status: what each image is that is well, whether the data are safe, and how far a copy has come.
-pub fn tell_status<R: Eprint>(rt: &R, names: &[String], survey: &Survey) {
+pub fn tell_status<R: Eprint>(rt: &R, alloc: Global, names: &[String], survey: &Survey) {
     match &survey.pool {
         Pool::Chosen(known) => {
             for place in 0..known.named.min(LOOKED_AT) {
@@ -82,6 +84,7 @@ pub fn tell_status<R: Eprint>(rt: &R, names: &[String], survey: &Survey) {
             }
             note_safety(rt, known);
             note_copy(rt, known);
+            note_room(rt, alloc, known, &survey.entries);
         }
         Pool::Likely(known) => {
             let _ = eprintln!(rt;
@@ -137,6 +140,22 @@ fn note_copy<R: Eprint>(rt: &R, known: &Known) {
             "raidzx: a copy moves the blocks onto {} images: {} of {sectors} sectors are moved, {percent} percent",
             reflow.to, reflow.mark
         );
+    }
+}
+
+/// What room the pool has, and which blocks.
+fn note_room<R: Eprint>(rt: &R, alloc: Global, known: &Known, entries: &[IndexEntry]) {
+    if let Ok(room) = room_of(alloc, &known.uber, entries) {
+        let _ = eprintln!(rt;
+            "raidzx: {} of {} sectors are used; the largest block that fits has {} bytes",
+            room.used, room.all, room.largest
+        );
+    }
+    if entries.is_empty() {
+        return;
+    }
+    if let Ok(ranges) = ranges_of(alloc, entries) {
+        let _ = eprintln!(rt; "raidzx: blocks{ranges}");
     }
 }
 

@@ -52,7 +52,7 @@ pub fn tell_look<R: Eprint>(
 ) {
     tell_survey(rt, alloc, names, command, survey, DeviceSet::empty());
     tell_short(rt, names, lengths, survey);
-    tell_status(rt, names, survey);
+    tell_status(rt, alloc, names, survey);
 }
 
 fn makes_pool(served: ServedCommand) -> bool {

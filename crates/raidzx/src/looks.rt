@@ -3,9 +3,9 @@
 
 use crate::bank::FileBank;
 use crate::door::{Survey, look_around};
+use crate::run_over;
 use crate::sightings::see;
 use crate::streams::Output;
-use crate::{Opened, run_over};
 use raidzx_top::{Outcome, Status};
 use std::alloc::AllocError;
 use std::sync::Wait;
@@ -36,7 +36,7 @@ pub fn look_until_quiet<R: Threads + Wait + Sync>(
     let mut bank = bank;
     for number in 1..MOST_LOOKS {
         let look = look_once(rt, threads, command, bank)?;
-        if look.is_quiet || number > ENOUGH_LOOKS && look.outcome.status == Status::Done {
+        if look.is_quiet || (number > ENOUGH_LOOKS && look.outcome.status == Status::Done) {
             return Ok(look);
         }
         let outcome = look.outcome;

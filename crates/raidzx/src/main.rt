@@ -19,6 +19,7 @@ mod notes;
 mod opening;
 mod order;
 mod places;
+mod room;
 mod seen;
 mod sightings;
 mod standing;

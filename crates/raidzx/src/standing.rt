@@ -3,7 +3,7 @@
 use crate::lives::is_of_another_life;
 use crate::places::{listed_out, missing_places, stands_wrong};
 use crate::sightings::{Sighting, Sightings, last_at, shown_at};
-use core_open::Look;
+use core_open::Found;
 use reflow_mark::State;
 use uberblock_ring::{DeviceSet, Uber};
 
@@ -52,13 +52,13 @@ impl Known {
     ghost use Rattle.uberblock_ring.specs.Devices.{has_device};
     ghost use Rattle.raidzx.specs.Missing.{IsMissing};
 
-    /// What a look tells of a pool.
-    pub fn by_look(named: u32, sightings: &Sightings, look: &Look) -> Known {
+    /// What an opening would find of a pool.
+    pub fn by_found(named: u32, sightings: &Sightings, found: &Found) -> Known {
         Known {
             named,
-            uber: look.uber,
-            listed: listed_out(&sightings.list, &look.uber),
-            out: look.out,
+            uber: found.uber,
+            listed: listed_out(&sightings.list, &found.uber),
+            out: found.out,
         }
     }
 
