@@ -37,7 +37,7 @@ start() {
   "$raidzx" "$@" 2>&1 >"$work/text" | while IFS= read -r line; do
     case $line in
       *': in use' | *': cannot be read' | 'raidzx: all blocks can be read'*) continue ;;
-      'raidzx: '*' sectors are used; '*) continue ;;
+      'raidzx: '*' sectors are used, by '*) continue ;;
       'raidzx: blocks '*)
         ranges=${line#raidzx: blocks }
         continue

@@ -213,6 +213,8 @@ input ''
 refused 'an empty script' 2 'script line 1'
 input 'clients 9\na sync\n'
 refused 'nine clients' 9 limit
+tells 'the limits are told' 'raidzx: a script has at most 16777216 bytes, 8 clients and 10000 calls, and a pool has 2^62 '\
+'groups; nothing was done'
 { echo 'clients 1'; yes 'a sync' | head -n 10001; } >script
 refused '10,001 calls' 9 limit
 INPUT=.

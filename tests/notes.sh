@@ -166,6 +166,10 @@ for ((number = 0; number < 66; number++)); do echo "a put $number 512 1"; done >
 "$RAIDZX" "${IMAGES[@]}" -- run <script >found 2>told || failed 'calls that are refused' "$(cat found)"
 tells 'calls that are refused' 'raidzx: no image was attached: 3 are named and the pool has 3; name it behind them, up to 16' \
   'raidzx: puts without room: 1; the largest wanted 192 free sectors side by side: free blocks and sync, then put them again'
+{ calls; cat puts; echo 'a sync'; echo 'a put 7 65536 1'; } >script
+"$RAIDZX" "${IMAGES[@]}" -- run <script >found 2>told || failed 'a put without room' "$(cat found)"
+tells 'a put without room' 'raidzx: puts without room: 1; the largest wanted 192 free sectors side by side, and the pool has '\
+'60 now: free blocks and sync, then put them again'
 { calls; for ((number = 0; number < 513; number++)); do echo "a puthex $number 61"; done; } >script
 images 3 1000
 "$RAIDZX" "${IMAGES[@]}" -- "${create[@]}" >/dev/null

@@ -64,7 +64,7 @@ out 1 2
 blocks 1' disk0 disk2 disk1 disk3
 tells 'and tells it too' "$(elsewhere disk2 1 2)" "$(elsewhere disk1 2 1)" "$(order disk0 disk1 disk2 disk3 -- status)" \
   'raidzx: disk0: in use' 'raidzx: disk3: in use' 'raidzx: all blocks can be read, and no more disk may be lost' \
-  'raidzx: 3 of 256 sectors are used; the largest block that fits has 64512 bytes' 'raidzx: blocks 7'
+  'raidzx: 3 of 256 sectors are used, by 1 of at most 512 blocks; the largest that fits has 64512 bytes' 'raidzx: blocks 7'
 reads 6 disk0 disk1 disk2 disk3
 tells 'nothing is told of the right order'
 
@@ -133,7 +133,7 @@ blocks 1' disk0 disk1 disk2
 tells 'and tells how far the copy has come' 'raidzx: disk0: in use' 'raidzx: disk1: in use' 'raidzx: disk2: in use' \
   'raidzx: all blocks can be read, and no more disk may be lost' \
   'raidzx: a copy moves the blocks onto 4 images: 0 of 192 sectors are moved, 0 percent' \
-  'raidzx: 2 of 192 sectors are used; the largest block that fits has 64512 bytes' 'raidzx: blocks 7'
+  'raidzx: 2 of 192 sectors are used, by 1 of at most 512 blocks; the largest that fits has 64512 bytes' 'raidzx: blocks 7'
 COMMAND=replay runs 'it is named' 0 '0 group 6 after 0
 1 a.1 get 7 at 1 bytes 61' 'get 7'
 

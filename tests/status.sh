@@ -26,11 +26,11 @@ looks 'a new pool' 0 "$(lines 1 none 0)"
 in_use() { printf 'raidzx: disk%s: in use\n' "$@"; }
 tells 'each disk is told, and that the data are safe' "$(in_use 0 1 2)" \
   'raidzx: all blocks can be read, and 1 more disk may be lost' \
-  'raidzx: 0 of 192 sectors are used; the largest block that fits has 65536 bytes'
+  'raidzx: 0 of 192 sectors are used, by 0 of at most 512 blocks; the largest that fits has 65536 bytes'
 calls 'put 7 3 5' 'put 8 1000 5' 'put 9 1 1' sync 'put 10 1 1' >script
 "$RAIDZX" "${IMAGES[@]}" -- run <script >text
 looks 'a pool with blocks' 0 "$(lines 4 none 3)"
-told_line 'its room is told' 'raidzx: 8 of 192 sectors are used; the largest block that fits has 62464 bytes'
+told_line 'its room is told' 'raidzx: 8 of 192 sectors are used, by 3 of at most 512 blocks; the largest that fits has 62464 bytes'
 told_line 'and its blocks' 'raidzx: blocks 7-9'
 looks 'the same again' 0 "$(lines 4 none 3)"
 looks 'an image less is named' 0 "$(lines 4 2 3)" disk0 disk1

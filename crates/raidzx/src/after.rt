@@ -106,7 +106,7 @@ fn tell_of_run<R: Eprint, B: Bank>(
         return;
     }
     tell_taken(rt, names, journal, bank);
-    tell_undone(rt, names, journal);
+    tell_undone(rt, alloc, names, journal, bank);
     match out_for_good(alloc, bank, journal) {
         Ok(out) => note_out(rt, names, out),
         Err(_) => note_unknown(rt),

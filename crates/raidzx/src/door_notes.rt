@@ -147,8 +147,11 @@ fn note_copy<R: Eprint>(rt: &R, known: &Known) {
 fn note_room<R: Eprint>(rt: &R, alloc: Global, known: &Known, entries: &[IndexEntry]) {
     if let Ok(room) = room_of(alloc, &known.uber, entries) {
         let _ = eprintln!(rt;
-            "raidzx: {} of {} sectors are used; the largest block that fits has {} bytes",
-            room.used, room.all, room.largest
+            "raidzx: {} of {} sectors are used, by {} of at most 512 blocks; the largest that fits has {} bytes",
+            room.used,
+            room.all,
+            entries.len(),
+            room.largest
         );
     }
     if entries.is_empty() {

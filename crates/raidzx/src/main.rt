@@ -32,7 +32,7 @@ use bank::{FileBank, bank_over};
 use bank_mem::MemBank;
 use bank_trait::{Bank, Sink};
 use entry::{let_in, tell_look};
-use hints::hint_line;
+use hints::{hint_limit, hint_line};
 use looks::look_until_quiet;
 use notes::{note_busy, note_failed_calls, note_unopened};
 use opening::{Access, Unopened, access_for, open_image};
@@ -117,8 +117,7 @@ fn open_files(
     })
 }
 
-/// Carries out the command over a bank, with threads of this handle, and tells what is wrong with a script that is
-/// refused.
+/// Carries out the command over a bank, with threads of this handle, and tells why a script is refused.
 fn run_over<R: Threads + Wait + Sync, B: Bank + Drop + Send, K: Sink>(
     rt: &HostRuntime,
     threads: &R,
@@ -139,8 +138,10 @@ fn run_over<R: Threads + Wait + Sync, B: Bank + Drop + Send, K: Sink>(
         out,
         &OpenGate,
     );
-    if let Status::ScriptFault { line, why } = outcome.status {
-        hint_line(rt, line, why);
+    match outcome.status {
+        Status::ScriptFault { line, why } => hint_line(rt, line, why),
+        Status::Limit if outcome.journal.is_empty() => hint_limit(rt),
+        _ => {}
     }
     outcome
 }

@@ -1,6 +1,10 @@
 // What room a pool has, and which blocks stand in it.
 
+ghost use Rattle.bank_trait.specs.Disk.{Unchanged};
+
+use bank_trait::Bank;
 use block_record::IndexEntry;
+use core_open::find;
 use row_layout::Layout;
 use std::alloc::{AllocError, Global};
 use uberblock_ring::{MAX_GROUP, Uber};
@@ -17,6 +21,8 @@ pub struct Room {
     /// Sectors that blocks take, with their parity.
     pub used: u64,
     pub all: u64,
+    /// The most free sectors side by side.
+    pub widest: u64,
     /// The bytes of the largest block that fits, 0 for none.
     pub largest: u32,
 }
@@ -39,11 +45,23 @@ pub fn room_of(alloc: Global, uber: &Uber, entries: &[IndexEntry]) -> Result<Roo
     for run in &runs {
         used = used.saturating_add(run.end.saturating_sub(run.start));
     }
+    let widest = widest_gap(&runs, all);
     Ok(Room {
         used,
         all,
-        largest: largest_in(uber, widest_gap(&runs, all)),
+        widest,
+        largest: largest_in(uber, widest),
     })
+}
+
+/// The room of the pool that an opening would choose now, if there is one. These are reads alone.
+pub fn room_left<B: Bank>(alloc: Global, bank: &mut B) -> Option<Room>
+    ensures { Unchanged (B.disk bank.old) (B.disk bank.new) }
+{
+    match find(alloc, bank) {
+        Ok(found) => room_of(alloc, &found.uber, &found.entries).ok(),
+        Err(_) => None,
+    }
 }
 
 fn runs_of(alloc: Global, uber: &Uber, entries: &[IndexEntry]) -> Result<Vec<Run>, AllocError> {

@@ -1,6 +1,11 @@
 // What of a run was not carried out, and what to do then, on standard error.
 
+ghost use Rattle.bank_trait.specs.Disk.{Unchanged};
+
+use crate::room::{Room, room_left};
+use bank_trait::Bank;
 use core_state::{Answer, Item, Journal};
+use std::alloc::Global;
 
 /// How many calls were refused for each reason.
 #[derive(Clone, Copy, Debug, PartialEq, Eq)]
@@ -49,7 +54,16 @@ fn one_more(count: &mut u64) {
 }
 
 /// Tells what calls of a run were refused, and what to do.
-pub fn tell_undone<R: Eprint>(rt: &R, names: &[String], journal: &Journal) {
+#[tactic(auto, using(core_open::proofs::Unchanged::unchanged_none, core_open::proofs::Unchanged::unchanged_then))]
+pub fn tell_undone<R: Eprint, B: Bank>(
+    rt: &R,
+    alloc: Global,
+    names: &[String],
+    journal: &Journal,
+    bank: &mut B,
+)
+    ensures { Unchanged (B.disk bank.old) (B.disk bank.new) }
+{
     let mut undone = Undone::none();
     for item in journal.as_slice() {
         if let Item::Call(entry) = item {
@@ -57,7 +71,9 @@ pub fn tell_undone<R: Eprint>(rt: &R, names: &[String], journal: &Journal) {
             note_widening(rt, names, &entry.answer);
         }
     }
-    note_puts(rt, &undone);
+    if undone.no_space > 0 {
+        note_no_space(rt, &undone, room_left(alloc, bank));
+    }
     note_others(rt, &undone);
 }
 
@@ -87,25 +103,31 @@ fn note_widening<R: Eprint>(rt: &R, names: &[String], answer: &Answer) {
     };
 }
 
-/// Which puts were refused.
-fn note_puts<R: Eprint>(rt: &R, undone: &Undone) {
-    if undone.no_space > 0 {
-        let _ = eprintln!(rt;
-            "raidzx: puts without room: {}; the largest wanted {} free sectors side by side: free blocks and sync, then \
-            put them again",
-            undone.no_space, undone.sectors
-        );
-    }
+/// How many puts found no room, and what there is now, if that is too little too: what was not synced takes none.
+fn note_no_space<R: Eprint>(rt: &R, undone: &Undone, room: Option<Room>) {
+    let wanted = undone.sectors;
+    let _ = match room {
+        Some(room) if room.widest < wanted => eprintln!(rt;
+            "raidzx: puts without room: {}; the largest wanted {wanted} free sectors side by side, and the pool has {} now: \
+            free blocks and sync, then put them again",
+            undone.no_space, room.widest
+        ),
+        _ => eprintln!(rt;
+            "raidzx: puts without room: {}; the largest wanted {wanted} free sectors side by side: free blocks and sync, \
+            then put them again",
+            undone.no_space
+        ),
+    };
+}
+
+/// Which other calls were refused.
+fn note_others<R: Eprint>(rt: &R, undone: &Undone) {
     if undone.full > 0 {
         let _ = eprintln!(rt;
             "raidzx: puts refused, as the pool has 512 blocks: {}; free others and put them again",
             undone.full
         );
     }
-}
-
-/// Which other calls were refused.
-fn note_others<R: Eprint>(rt: &R, undone: &Undone) {
     if undone.damaged > 0 {
         let _ = eprintln!(rt;
             "raidzx: reads that found wrong bytes: {}; the manual tells at `damaged` how to find the image that gives them",
