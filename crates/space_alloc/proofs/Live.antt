@@ -60,6 +60,17 @@ live_gains old new before after entry was is some = record {
 live_few : (entries : List Entry) → length (live_of entries) ≤ length entries
 live_few entries = let same = length-filter is_live entries in let few = count_by-le-length is_live entries in omega (arith, same, few)
 
+-- the dead entry that a run leaves
+abbrev pub dead_of : Entry → Entry
+dead_of entry = record { start = entry.start; len = 0 }
+
+-- One stands in the place of a run, and is not counted yet.
+pub record HasDied (entries : List Entry) (dead at : ℕ) (entry : Entry) (live : List Entry) : Type 0 where
+  pub within : at < length entries
+  pub in_order : BeginInOrder (set entries at (dead_of entry))
+  pub count : dead + 1 + length (live_of (set entries at (dead_of entry))) ≡ length entries
+  pub gains : Gains (live_of (set entries at (dead_of entry))) live entry
+
 module _ (entries : List Entry) (dead at : ℕ) (runs : AreRuns entries dead) where
   module _ (entry : Entry) (some : 0 < entry.len) where
     -- A run is put in the place of a dead entry,
@@ -81,6 +92,7 @@ module _ (entries : List Entry) (dead at : ℕ) (runs : AreRuns entries dead) wh
       set_runs less is gap = record {
         in_order = order_set entries runs.in_order entry at gap;
         count = (let count = set_count in let same = length-set entries at entry in omega (arith, count, same, is));
+        few = (let few = runs.few in let more = gained_length _ _ entry set_gains in omega (arith, few, more, is));
       }
 
     -- or between two,
@@ -96,26 +108,36 @@ module _ (entries : List Entry) (dead at : ℕ) (runs : AreRuns entries dead) wh
           let was = ap length (take-append-drop at entries) in
           let parts = length-append (take at entries) (drop at entries) in
           omega (arith, count, more, long, was, parts));
+      few = (let few = runs.few in let more = gained_length _ _ entry insert_gains in omega (arith, few, more));
     }
 
   -- and one that is listed leaves a dead entry.
-  module _ (entry gone : Entry) (listed : Contains (live_of entries) entry) (place : IsPartitionedAt entries entry.start entry.start at at) where
-    pub stands_here : slice_get entries at ≡ Some entry
+  module _ (entry : Entry) (listed : Contains (live_of entries) entry) (place : IsPartitionedAt entries entry.start entry.start at at) where
+    stands_here : slice_get entries at ≡ Some entry
     stands_here = place_of entries runs.in_order entry at (live_listed entries entry listed).0 place
 
-    pub remove_gains : gone.len ≡ 0 → Gains (live_of (set entries at gone)) (live_of entries) entry
-    remove_gains none = live_gains (set entries at gone) entries (take at entries) (drop (suc at) entries) entry
-        (ap live_of (set_split entries at gone (slice_get_within entries at entry stands_here))
-        ∙ live_same (take at entries) (drop (suc at) entries) gone none)
+    remove_gains : Gains (live_of (set entries at (dead_of entry))) (live_of entries) entry
+    remove_gains = live_gains (set entries at (dead_of entry)) entries (take at entries) (drop (suc at) entries) entry
+        (ap live_of (set_split entries at (dead_of entry) (slice_get_within entries at entry stands_here))
+        ∙ live_same (take at entries) (drop (suc at) entries) (dead_of entry) refl)
         (split_at entries entry at stands_here) (live_listed entries entry listed).1
 
-    pub remove_runs : gone.len ≡ 0 → gone.start ≡ entry.start → AreRuns (set entries at gone) (dead + 1)
-    remove_runs none same_start = record {
-      in_order = order_set entries runs.in_order gone at (subst (λ (n : ℕ). IsPartitionedAt entries n (n + 1) at (at + 1)) (sym same_start)
-          (gap_here entries runs.in_order entry.start at place (slice_get_within entries at entry stands_here)));
-      count = (let count = runs.count in let fewer = gained_length _ _ entry (remove_gains none) in let same = length-set entries at gone in
-          omega (arith, count, fewer, same));
+    remove_one : HasDied entries dead at entry (live_of entries)
+    remove_one = record {
+      within = slice_get_within entries at entry stands_here;
+      in_order = order_set entries runs.in_order (dead_of entry) at
+          (gap_here entries runs.in_order entry.start at place (slice_get_within entries at entry stands_here));
+      count = (let count = runs.count in let fewer = gained_length _ _ entry remove_gains in omega (arith, count, fewer));
+      gains = remove_gains;
     }
+
+-- So it is with what is seen of them.
+pub removed : (entries seen live : List Entry) (dead at : ℕ) (entry : Entry) → AreRuns entries dead → live_of entries ≡ live → seen ≡ entries
+    → Contains live entry → IsPartitionedAt seen entry.start entry.start at at → HasDied entries dead at entry live
+removed entries seen live dead at entry runs view_is same listed place =
+    subst (HasDied entries dead at entry) view_is (remove_one entries dead at runs entry
+    (subst (λ (l : List Entry). Contains l entry) (sym view_is) listed)
+    (subst (λ (l : List Entry). IsPartitionedAt l entry.start entry.start at at) same place))
 
 pub filter_again : {X : Type 0} (test : X → Bool) (xs : List X) → filter test (filter test xs) ≡ filter test xs
 filter_again test [] = refl
@@ -128,8 +150,9 @@ filter_again {X} test (x ∷ xs) = by_test (test x) refl (filter_again test xs)
     by_test false passes rest = rest
 
 -- The live entries alone are the same runs.
-pub live_runs : (entries : List Entry) (dead : ℕ) → AreRuns entries dead → AreRuns (live_of entries) 0
-live_runs entries dead runs = record {
-  in_order = AllPairs-filter (λ (e later : Entry). e.start < later.start) is_live entries runs.in_order;
+pub live_runs : (entries : List Entry) → BeginInOrder entries → AreRuns (live_of entries) 0
+live_runs entries order = record {
+  in_order = AllPairs-filter (λ (e later : Entry). e.start < later.start) is_live entries order;
   count = zero-add _ ∙ ap length (filter_again is_live entries);
+  few = omega arith;
 }

@@ -69,10 +69,11 @@ live_of entries = filter is_live entries
 abbrev pub BeginInOrder : List Entry → Type 0
 BeginInOrder entries = AllPairs (λ entry later. entry.start < later.start) entries
 
--- how a list of runs is kept: in order, and with a count of the dead entries
+-- how a list of runs is kept: in order, and with a count of the dead entries, which are at most 64 more than the live
 pub record AreRuns (entries : List Entry) (dead : ℕ) : Type 0 where
   pub in_order : BeginInOrder entries
   pub count : dead + length (live_of entries) ≡ length entries
+  pub few : dead ≤ 64 + length (live_of entries)
 
 -- The entries below the place `low` begin before one sector, and those from `high` on at another or behind it.
 pub record IsPartitionedAt (entries : List Entry) (start from low high : ℕ) : Type 0 where

@@ -1,5 +1,6 @@
 // The list of taken runs, by their start.
-ghost use Rattle.std.specs.Prelude.{◌≡◌, ◌≢◌, ◌<◌, ◌≤◌, ◌^◌, [], All, Contains, OnOk, OnErr, length};
+ghost use Rattle.std.specs.Prelude.{◌≡◌, ◌≢◌, ◌+◌, ◌*◌, ◌<◌, ◌≤◌, ◌^◌, [], All, Contains, OnOk, OnErr, length};
+ghost use Rattle.space_alloc.specs.Entries.{live_of};
 ghost use Rattle.space_alloc.specs.Space.{Gains};
 
 use crate::entry::Entry;
@@ -7,19 +8,20 @@ use crate::gap::{self, Gap};
 use std::alloc::{AllocError, Global};
 use std::marker::Model;
 
-/// So many dead entries are not worth a pass over all.
+/// So many dead entries more than live ones are not worth a pass over all.
 const FEW: usize = 64;
 
 /// The runs that are taken, by their start.
 ///
 /// An entry that is removed stays in its place as a dead one, so that those behind it are not shifted. A run that
-/// is put beside it takes its place.
+/// is put beside it takes its place. There are at most 64 dead entries more than live ones (`few` of `AreRuns`).
 #[derive(Drop, Debug)]
 pub struct Runs {
     entries: Vec<Entry>,
     dead: usize,
     // The places behind the last run that was put and behind the last that was removed: where blocks are written over
-    // in order, the next ones stand there.
+    // in order, the next ones stand there. Once the dead entries were taken away they may be wrong, which costs the next
+    // call a search by halves.
     behind_put: usize,
     behind_removed: usize,
 }
@@ -51,6 +53,7 @@ impl Runs {
     /// How many entries there are, the dead ones too.
     pub fn places(&self) -> usize
         ensures enough { length self.now ≤ result }
+        ensures most { result ≤ 2 * length self.now + 64 }
         ensures few { result < 2 ^ 62 }
     {
         self.entries.as_slice().len()
@@ -78,6 +81,9 @@ impl Runs {
     }
 
     /// Takes away a run that is listed.
+    ///
+    /// Where too many entries are dead then, one pass takes them all away. It looks at less than twice as many
+    /// entries as were removed since the last pass.
     pub fn remove(&mut self, entry: &Entry)
         requires listed { Contains self.old entry.now }
         ensures { Gains self.new self.old entry.now }
@@ -89,15 +95,17 @@ impl Runs {
         };
         self.dead += 1;
         self.behind_removed = at + 1;
-    }
-
-    /// Takes the dead entries away, in one pass, where they are more than the live ones.
-    pub fn compact(&mut self)
-        ensures { self.new ≡ self.old }
-    {
-        if self.dead > FEW && self.dead > self.entries.len() / 2 {
-            self.entries.retain(|entry| entry.is_live());
+        let live = self.entries.len() - self.dead;
+        if self.dead > FEW + live {
+            compact(&mut self.entries);
             self.dead = 0;
         }
     }
+}
+
+/// Takes the dead entries away, in one pass.
+fn compact(entries: &mut Vec<Entry>)
+    ensures { entries.new.items ≡ live_of entries.old.items }
+{
+    entries.retain(|entry| entry.is_live());
 }

@@ -1,5 +1,5 @@
 // The sectors of the pool that are in use.
-ghost use Rattle.std.specs.Prelude.{◌≡◌, ◌≤◌, ◌<◌, [], Contains, IfOk, IfErr, OnOk, OnErr};
+ghost use Rattle.std.specs.Prelude.{◌≡◌, ◌+◌, ◌*◌, ◌≤◌, ◌<◌, [], Contains, IfOk, IfErr, OnOk, OnErr, length};
 ghost use Rattle.space_alloc.specs.Fit.{refusal_of};
 ghost use Rattle.space_alloc.specs.Space.{IsFreeRun, IsFirstFit, IsTaking, IsDropping, IsHolding, IsTakeCause};
 ghost use Rattle.space_alloc.specs.Space.{LooksAtEach, after_group};
@@ -51,6 +51,14 @@ impl Space {
         }
     }
 
+    /// How many entries its lists of runs have, the dead ones too.
+    pub fn places(&self) -> usize
+        ensures enough { length self.now.taken + length self.now.held ≤ result }
+        ensures most { result ≤ 2 * length self.now.taken + length self.now.held + 64 }
+    {
+        self.taken.places() + self.held.len()
+    }
+
     /// Takes the lowest run of `len` free sectors that no exclusive hold overlaps.
     ///
     /// Looking at one free run or one hold is one step.
@@ -90,9 +98,9 @@ impl Space {
             Contains self.new.taken (record { start = start; len = len })) }
         ensures err { OnErr result (self.new ≡ self.old) }
     {
+        let places = self.places();
         self.held.reserve(self.taken.places() + 1)?;
-        self.edges
-            .reserve(2 * (self.taken.places() + self.held.len()) + 4)?;
+        self.edges.reserve(2 * places + 4)?;
         self.taken.insert(Entry { start, len })?;
         edges::flip_run(&mut self.edges, start, start + len);
         Ok(())
@@ -127,7 +135,6 @@ impl Space {
     {
         edges::flip_until(&mut self.edges, &self.held, group);
         held::remove_until(&mut self.held, group);
-        self.taken.compact();
     }
 
     /// The pool has so many sectors from now on.

@@ -1,34 +1,48 @@
-use Rattle.std.proofs.Common.{◌<◌, List, length, set, arith, refl, subst, sym}
-use Rattle.std.specs.Prelude.{Contains}
-use Rattle.std.proofs.lemmas.Option.{slice_get_within}
+use Rattle.std.proofs.Common.{List, ◌∙◌, ap, arith, set, sym, subst}
+use Rattle.std.proofs.lemmas.List.{length-set}
 use Rattle.space_alloc.specs.declared.entry.Entry.{Entry}
 use Rattle.space_alloc.specs.Space.{Gains}
-use Rattle.space_alloc.specs.Entries.{live_of, IsPartitionedAt}
-use Rattle.space_alloc.proofs.Live.{remove_gains, remove_runs, stands_here}
+use Rattle.space_alloc.specs.Entries.{live_of, AreRuns}
+use Rattle.space_alloc.proofs.Live.{dead_of, filter_again, live_runs, removed}
 use Rattle.space_alloc.proofs.runs.Runs.remove.Goals as goal
 
 pub index_mut-requires : goal.index_mut-requires
 index_mut-requires c =
-    let listed = subst (λ (l : List Entry). Contains l c.args.entry.now) (sym c.self.view_is) c.requires.listed in
-    let place = subst (λ (l : List Entry). IsPartitionedAt l c.args.entry.now.start c.args.entry.now.start c.place-at.result c.place-at.result)
-    c.deref.ensures.value c.place-at.ensures in
-    let within : c.place-at.result < length c.self.inside.entries.items = slice_get_within _ _ c.args.entry.now
-    (stands_here _ _ c.place-at.result c.self.invariant c.args.entry.now c.args.entry.now listed place) in
+    let left = removed _ _ _ _ _ _ c.self.invariant c.self.view_is c.deref.ensures.value c.requires.listed c.place-at.ensures in
+    let within = left.within in
     let same = c.self.inside.entries.ok.0 in
     omega (arith, within, same)
 
+pub overflow_sub-live : goal.overflow_sub-live
+overflow_sub-live c =
+    let left = removed _ _ _ _ _ _ c.self.invariant c.self.view_is c.deref.ensures.value c.requires.listed c.place-at.ensures in
+    let count = left.count in
+    let same = c.self.inside.entries.ok.0 in
+    omega (arith, count, same, c.len.ensures)
+
 pub invariant_of-self : goal.invariant_of-self
 invariant_of-self c =
-    let listed = subst (λ (l : List Entry). Contains l c.args.entry.now) (sym c.self.view_is) c.requires.listed in
-    let place = subst (λ (l : List Entry). IsPartitionedAt l c.args.entry.now.start c.args.entry.now.start c.place-at.result c.place-at.result)
-    c.deref.ensures.value c.place-at.ensures in
-    remove_runs _ _ c.place-at.result c.self.invariant c.args.entry.now (record { start = c.args.entry.now.start; len = 0 }) listed place refl refl
+    let left = removed _ _ _ _ _ _ c.self.invariant c.self.view_is c.deref.ensures.value c.requires.listed c.place-at.ensures in
+    subst (λ (l : List Entry). AreRuns l 0) (sym c.compact.ensures) (live_runs _ left.in_order)
 
-pub returns : goal.returns
-returns c =
-    let gone : Entry = record { start = c.args.entry.now.start; len = 0 } in
-    let listed = subst (λ (l : List Entry). Contains l c.args.entry.now) (sym c.self.view_is) c.requires.listed in
-    let place = subst (λ (l : List Entry). IsPartitionedAt l c.args.entry.now.start c.args.entry.now.start c.place-at.result c.place-at.result)
-    c.deref.ensures.value c.place-at.ensures in
-    subst (λ (l : List Entry). Gains (live_of (set c.self.inside.entries.items c.place-at.result gone)) l c.args.entry.now) c.self.view_is
-    (remove_gains c.self.inside.entries.items c.self.inside.dead c.place-at.result c.self.invariant c.args.entry.now gone listed place refl)
+pub invariant_of-self-else-self-live : goal.invariant_of-self-else-self-live
+invariant_of-self-else-self-live c =
+    let left = removed _ _ _ _ _ _ c.self.invariant c.self.view_is c.deref.ensures.value c.requires.listed c.place-at.ensures in
+    let count = left.count in
+    let same = c.self.inside.entries.ok.0 in
+    record {
+      in_order = left.in_order;
+      count = count ∙ sym (length-set c.self.inside.entries.items c.place-at.result (dead_of c.args.entry.now));
+      few = omega (arith, count, same, c.len.ensures, c.if-self-live.false);
+    }
+
+pub returns-then-self-live : goal.returns-then-self-live
+returns-then-self-live c =
+    let left = removed _ _ _ _ _ _ c.self.invariant c.self.view_is c.deref.ensures.value c.requires.listed c.place-at.ensures in
+    subst (λ (l : List Entry). Gains l c.args.self.now c.args.entry.now)
+    (sym (ap live_of c.compact.ensures ∙ filter_again _ (set c.self.inside.entries.items c.place-at.result (dead_of c.args.entry.now)))) left.gains
+
+pub returns-else-self-live : goal.returns-else-self-live
+returns-else-self-live c =
+    let left = removed _ _ _ _ _ _ c.self.invariant c.self.view_is c.deref.ensures.value c.requires.listed c.place-at.ensures in
+    left.gains
