@@ -171,6 +171,8 @@ was() {
 
 # summed LEN SEED: what a sum of such a block answers.
 summed() { echo "length $1 sha $(pattern "$1" "$2" | sha256sum | cut -c 1-64)"; }
+# summed_file FILE: what it answers of a block of the bytes of a file.
+summed_file() { echo "length $(stat -c %s "$1") sha $(digest "$1")"; }
 
 # pool_and COUNT: a fresh pool of three images, and so many images more that show none.
 pool_and() {
