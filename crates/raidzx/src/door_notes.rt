@@ -56,8 +56,8 @@ fn note_standing<R: Eprint>(rt: &R, name: &str, place: u32, known: &Known, stand
             uber.group()
         ),
         Standing::LeftBehind { last } => eprintln!(rt;
-            "raidzx: {name}: its last group is {last}, the pool's is {}: it missed what was synced since, and is out for \
-            good",
+            "raidzx: {name}: its last group is {last}, the pool's is {}: it missed what was synced since, and is out \
+            for good",
             known.uber.group()
         ),
         Standing::Foreign(sighting) if place < known.disks() => eprintln!(rt;

@@ -8,7 +8,8 @@ const PAGE: [&str; 15] = [
     "    carries out the calls of a script; with --attach the IMAGE behind the pool's joins it",
     "raidzx IMAGE.. -- replay <SCRIPT         the same, turn by turn",
     "raidzx IMAGE.. -- status                 tells where the pool stands, and only reads",
-    "each IMAGE is a file or a disk: name all of the pool's, in their order; for a lost one a word at which nothing stands",
+    "each IMAGE is a file or a disk: name all of the pool's, in their order; for a lost one a word at which nothing \
+    stands",
     "a script is `clients K`, and then a call a line: the client's letter, and one of",
     "    put ID LEN SEED, puthex ID DIGITS, get ID, sum ID, free ID, sync, attach, copy",
     "an example:",

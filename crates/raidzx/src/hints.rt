@@ -36,8 +36,8 @@ fn call_hint(why: CallFault) -> &'static str {
 /// Tells what the limits are of a script and of a pool.
 pub fn hint_limit<R: Eprint>(rt: &R) {
     let _ = eprintln!(rt;
-        "raidzx: a script has at most 16777216 bytes, 8 clients and 10000 calls, and a pool has 2^62 groups; nothing was \
-        done"
+        "raidzx: a script has at most 16777216 bytes, 8 clients and 10000 calls, and a pool has 2^62 groups; nothing \
+        was done"
     );
 }
 

@@ -13,8 +13,8 @@ pub fn note_unopened<R: Eprint>(rt: &R, name: &str, why: &Unopened) {
             "raidzx: {name}: another program has it, or it is named twice; nothing was done"
         ),
         Unopened::Refused(error) => eprintln!(rt;
-            "raidzx: {name}: cannot be opened: {error}; nothing was done, as the disk may be whole; to go on without it \
-            for good, name in its place a word at which nothing stands"
+            "raidzx: {name}: cannot be opened: {error}; nothing was done, as the disk may be whole; to go on without \
+            it for good, name in its place a word at which nothing stands"
         ),
         Unopened::Failed(error) => eprintln!(rt;
             "raidzx: {name}: cannot be opened: {error}; its disk counts as failed"
@@ -113,8 +113,8 @@ pub fn note_too_small<R: Eprint>(rt: &R, images: usize, width: usize, sectors: u
         let _ = eprintln!(rt; "raidzx: {images} images are named, and the width is {width}");
     } else {
         let _ = eprintln!(rt;
-            "raidzx: the longest image has {sectors} sectors of 512 bytes, and a pool takes 256: make each 131072 bytes \
-            at least"
+            "raidzx: the longest image has {sectors} sectors of 512 bytes, and a pool takes 256: make each 131072 \
+            bytes at least"
         );
     }
 }

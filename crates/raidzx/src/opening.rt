@@ -34,8 +34,8 @@ pub enum Unopened {
 }
 
 /// Whether an error tells of this program or its system, and not of a disk: it has no permission, no memory or no
-/// descriptor left, the file system may be read alone, or the system has the disk for itself. (A file system becomes one
-/// that may be read alone when its disk fails, and it may be whole all the same.)
+/// descriptor left, the file system may be read alone, or the system has the disk for itself. (A file system becomes
+/// one that may be read alone when its disk fails, and it may be whole all the same.)
 fn is_of_program(error: &Error) -> bool
     ensures { IsTrue result ↔ IsOfProgram error.now }
 {

@@ -108,13 +108,13 @@ fn note_no_space<R: Eprint>(rt: &R, undone: &Undone, room: Option<Room>) {
     let wanted = undone.sectors;
     let _ = match room {
         Some(room) if room.widest < wanted => eprintln!(rt;
-            "raidzx: puts without room: {}; the largest wanted {wanted} free sectors side by side, and the pool has {} now: \
-            free blocks and sync, then put them again",
+            "raidzx: puts without room: {}; the largest wanted {wanted} free sectors side by side, and the pool has {} \
+            now: free blocks and sync, then put them again",
             undone.no_space, room.widest
         ),
         _ => eprintln!(rt;
-            "raidzx: puts without room: {}; the largest wanted {wanted} free sectors side by side: free blocks and sync, \
-            then put them again",
+            "raidzx: puts without room: {}; the largest wanted {wanted} free sectors side by side: free blocks and \
+            sync, then put them again",
             undone.no_space
         ),
     };
@@ -130,7 +130,8 @@ fn note_others<R: Eprint>(rt: &R, undone: &Undone) {
     }
     if undone.damaged > 0 {
         let _ = eprintln!(rt;
-            "raidzx: reads that found wrong bytes: {}; the manual tells at `damaged` how to find the image that gives them",
+            "raidzx: reads that found wrong bytes: {}; the manual tells at `damaged` how to find the image that \
+            gives them",
             undone.damaged
         );
     }
@@ -142,7 +143,8 @@ fn note_others<R: Eprint>(rt: &R, undone: &Undone) {
     }
     if undone.no_memory > 0 {
         let _ = eprintln!(rt;
-            "raidzx: calls not carried out for want of memory: {}; run them again with more memory, or fewer in a script",
+            "raidzx: calls not carried out for want of memory: {}; run them again with more memory, or fewer in a \
+            script",
             undone.no_memory
         );
     }
