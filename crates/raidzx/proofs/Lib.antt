@@ -1,4 +1,7 @@
 pub mod LastGroups
 pub mod Listed
+pub mod Refusing
+pub mod Rivals
 pub mod Slots
+pub mod Tested
 pub mod Together

@@ -1,11 +1,8 @@
 // Whether a command that changes a pool is let in: a slip in the words must cost no disk.
-ghost use Rattle.std.specs.Prelude.{◌≡◌, ◌<◌, ℕ, true};
+ghost use Rattle.std.specs.Prelude.{◌≡◌, ◌<◌, ◌↔◌, ℕ, true};
 ghost use Rattle.bank_trait.specs.Disk.{Unchanged};
 ghost use Rattle.uberblock_ring.specs.Devices.{has_device};
-ghost use Rattle.raidzx.specs.declared.door.Pool.TheVariants.{Chosen};
-ghost use Rattle.raidzx.specs.declared.standing.Known.{Known as KnownOf};
-ghost use Rattle.raidzx.specs.Missing.{IsMissing};
-ghost use Rattle.raidzx.specs.Places.{ShowsElsewhere};
+ghost use Rattle.raidzx.specs.Refused.{AreRefused, IsAmiss};
 
 use crate::lives::{are_of_one_life, other_places};
 use crate::places::{both, wrong_places};
@@ -146,35 +143,21 @@ fn is_near(sightings: &[Sighting], uber: &Uber, place: u32) -> bool {
 
 /// The places for which a command that changes a pool is refused. There are none where no pool would be opened.
 pub fn refused_places(survey: &Survey) -> DeviceSet
-    ensures wrong { (known : KnownOf) → survey.now.pool ≡ Chosen known → (place : ℕ) → place < 64
-        → ShowsElsewhere survey.now.sightings.list.items known.uber.pool place
-        → has_device result place ≡ true }
-    ensures missing { (known : KnownOf) → survey.now.pool ≡ Chosen known → (place : ℕ)
-        → IsMissing known place → has_device result place ≡ true }
+    ensures { AreRefused survey.now result }
 {
     match &survey.pool {
-        Pool::Chosen(known) => refused_by(&survey.sightings.list, known),
+        Pool::Chosen(known) => amiss_places(&survey.sightings.list, known),
         _ => DeviceSet::empty(),
     }
 }
 
 /// Those whose images stand wrong, those that no word names, and those whose images may be of the pool that is meant.
-fn refused_by(sightings: &[Sighting], known: &Known) -> DeviceSet
-    ensures wrong { (place : ℕ) → place < 64
-        → ShowsElsewhere sightings.now known.now.uber.pool place → has_device result place ≡ true }
-    ensures missing { (place : ℕ) → IsMissing known.now place → has_device result place ≡ true }
+fn amiss_places(sightings: &[Sighting], known: &Known) -> DeviceSet
+    ensures each { (place : ℕ) → has_device result place ≡ true
+        ↔ ((place < 64) × IsAmiss sightings.now known.now place) }
 {
     both(
-        surely_wrong(sightings, known),
+        both(wrong_places(sightings, known.uber.pool()), known.unnamed()),
         other_places(sightings, &known.uber, known.listed),
     )
-}
-
-/// Those whose images stand wrong, and those that no word names.
-fn surely_wrong(sightings: &[Sighting], known: &Known) -> DeviceSet
-    ensures wrong { (place : ℕ) → place < 64
-        → ShowsElsewhere sightings.now known.now.uber.pool place → has_device result place ≡ true }
-    ensures missing { (place : ℕ) → IsMissing known.now place → has_device result place ≡ true }
-{
-    both(wrong_places(sightings, known.uber.pool()), known.missing())
 }

@@ -1,5 +1,7 @@
 // How a command over files is let in, and what is told before it is carried out.
+ghost use Rattle.std.specs.Prelude.{ℕ, IfErr, OnOk};
 ghost use Rattle.bank_trait.specs.Disk.{Unchanged};
+ghost use Rattle.raidzx.specs.Refused.{IsRefusal, IsRefused};
 
 use crate::door::{Pool, Survey, look_around, refused_places};
 use crate::door_notes::{tell_status, tell_survey};
@@ -11,10 +13,9 @@ use std::alloc::Global;
 use uberblock_ring::{DeviceSet, Uber};
 use width_map::FIRST_DATA_SECTOR;
 
-/// Looks at the images, by reads alone, and tells what is not as it should be. A command that changes a pool is refused
-/// where a slip in the words would cost a disk.
+/// Looks at the images, by reads alone, tells what is not as it should be, and lets the command in or refuses it.
 #[tactic(auto, using(core_open::proofs::Unchanged::unchanged_none, core_open::proofs::Unchanged::unchanged_then))]
-pub fn let_in<R: Eprint, B: Bank>(
+pub fn look_first<R: Eprint, B: Bank>(
     rt: &R,
     alloc: Global,
     names: &[String],
@@ -32,12 +33,28 @@ pub fn let_in<R: Eprint, B: Bank>(
     let Ok(survey) = look_around(alloc, bank, false) else {
         return Err(Status::NoMemory);
     };
-    let refused = refused_places(&survey);
-    tell_survey(rt, alloc, names, command, &survey, refused);
+    let_in(rt, alloc, names, command, lengths, &survey)
+}
+
+/// Tells what is not as it should be. A command that changes a pool is refused where a slip in the words would cost a
+/// disk.
+fn let_in<R: Eprint>(
+    rt: &R,
+    alloc: Global,
+    names: &[String],
+    command: &[String],
+    lengths: &[u64],
+    survey: &Survey,
+) -> Result<(), Status>
+    ensures ok { OnOk result ((place : ℕ) → IsRefused survey.now place → ⊥) }
+    ensures err { IfErr result (IsRefusal survey.now) }
+{
+    let refused = refused_places(survey);
+    tell_survey(rt, alloc, names, command, survey, refused);
     if !refused.is_empty() {
         return Err(Status::TooManyFailed { out: refused });
     }
-    tell_short(rt, names, lengths, &survey);
+    tell_short(rt, names, lengths, survey);
     Ok(())
 }
 

@@ -31,7 +31,7 @@ use after::tell_files;
 use bank::{FileBank, bank_over};
 use bank_mem::MemBank;
 use bank_trait::{Bank, Sink};
-use entry::{let_in, tell_look};
+use entry::{look_first, tell_look};
 use hints::{hint_limit, hint_line};
 use looks::look_until_quiet;
 use notes::{note_busy, note_failed_calls, note_unopened};
@@ -166,7 +166,7 @@ fn serve_files<R: Threads + Wait + Sync>(
     let alloc = rt.alloc();
     let lengths = opened.lengths;
     let mut bank = opened.bank;
-    if let Err(status) = let_in(rt, alloc, names, command, served, &lengths, &mut bank) {
+    if let Err(status) = look_first(rt, alloc, names, command, served, &lengths, &mut bank) {
         return end(rt, status);
     }
     let outcome = run_over(rt, threads, command, bank, &mut output(rt));

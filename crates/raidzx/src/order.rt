@@ -54,7 +54,7 @@ pub fn right_order(alloc: Global, survey: &Survey) -> Result<Option<Vec<u32>>, A
 }
 
 fn order_of(alloc: Global, survey: &Survey, known: &Known) -> Result<Option<Vec<u32>>, AllocError> {
-    if !known.missing().is_empty() {
+    if !known.unnamed().is_empty() {
         return Ok(None);
     }
     let sightings = &survey.sightings.list;

@@ -1,7 +1,8 @@
 // Which places of a pool have the wrong image, or none.
-ghost use Rattle.std.specs.Prelude.{◌≡◌, ◌<◌, ◌≤◌, ◌↔◌, ℕ, IsTrue, true, false};
-ghost use Rattle.uberblock_ring.specs.Devices.{IsWithin, has_device};
-ghost use Rattle.raidzx.specs.Places.{ShowsElsewhere};
+ghost use Rattle.std.specs.Prelude.{◌≡◌, ◌<◌, ◌≤◌, ◌⊎◌, ◌↔◌, ℕ, IfSome, IsTrue, true, false};
+ghost use Rattle.std.specs.List.{Any};
+ghost use Rattle.uberblock_ring.specs.Devices.{has_device};
+ghost use Rattle.raidzx.specs.Places.{IsElsewhereAt, ShowsElsewhere};
 
 use crate::sightings::{LOOKED_AT, Sighting};
 use uberblock_ring::{DeviceSet, Uber};
@@ -10,9 +11,26 @@ use uberblock_ring::{DeviceSet, Uber};
 pub fn stands_wrong(sightings: &[Sighting], pool: u64, place: u32) -> bool
     ensures { IsTrue result ↔ ShowsElsewhere sightings.now pool place }
 {
-    sightings.iter().any(|sighting| {
-        sighting.place == place && sighting.number != place && sighting.uber.pool() == pool
-    })
+    sightings
+        .iter()
+        .any(|sighting| is_elsewhere_at(sighting, pool, place))
+}
+
+fn is_elsewhere_at(sighting: &Sighting, pool: u64, place: u32) -> bool
+    ensures { IsTrue result ↔ IsElsewhereAt sighting.now pool place }
+{
+    sighting.place == place && sighting.number != place && sighting.uber.pool() == pool
+}
+
+/// What the image at this place shows of the pool under another number.
+pub fn shown_elsewhere(sightings: &[Sighting], pool: u64, place: u32) -> Option<Sighting>
+    ensures { IfSome result (λ sighting.
+        Any (λ other. (other ≡ sighting) × IsElsewhereAt other pool place) sightings.now) }
+{
+    sightings
+        .iter()
+        .find(|sighting| is_elsewhere_at(*sighting, pool, place))
+        .copied()
 }
 
 /// The places whose images show the pool under another number.
@@ -20,32 +38,20 @@ pub fn wrong_places(sightings: &[Sighting], pool: u64) -> DeviceSet
     ensures each { (place : ℕ) → has_device result place ≡ true
         ↔ ((place < 64) × ShowsElsewhere sightings.now pool place) }
 {
-    let mut wrong = DeviceSet::empty();
-    for place in 0..LOOKED_AT {
-        if stands_wrong(sightings, pool, place) {
-            wrong.insert(place);
-        }
-    }
-    wrong
+    places_where(|place| stands_wrong(sightings, pool, place))
 }
 
 /// The places of a pool of so many disks for which no image is named, where so many are; those aside that are listed
 /// as out.
-pub fn missing_places(named: u32, disks: u32, listed: DeviceSet) -> DeviceSet
+pub fn unnamed_places(named: u32, disks: u32, listed: DeviceSet) -> DeviceSet
     requires few { disks ≤ 16 }
     ensures each { (place : ℕ) → has_device result place ≡ true
         ↔ ((place < disks) × ((named ≤ place) × (has_device listed place ≡ false))) }
 {
-    let mut missing = DeviceSet::empty();
-    for place in 0..disks {
-        if is_missing(named, listed, place) {
-            missing.insert(place);
-        }
-    }
-    missing
+    places_where(|place| place < disks && is_unnamed(named, listed, place))
 }
 
-fn is_missing(named: u32, listed: DeviceSet, place: u32) -> bool
+fn is_unnamed(named: u32, listed: DeviceSet, place: u32) -> bool
     ensures { IsTrue result ↔ ((named ≤ place) × (has_device listed place ≡ false)) }
 {
     place >= named && !listed.has(place)
@@ -69,11 +75,29 @@ fn are_alike(one: &Uber, other: &Uber) -> bool {
     alike == *other
 }
 
+/// The places at which a test says so.
+#[tactic(auto, using(crate::proofs::Tested::tested))]
+pub fn places_where<F: Fn(u32) -> bool>(test: F) -> DeviceSet
+    requires { F.IsAlwaysCallable test }
+    ensures has { (place : ℕ) → has_device result place ≡ true
+        → (place < 64) × F.post test place true }
+    ensures lacks { (place : ℕ) → place < 64 → has_device result place ≡ false
+        → F.post test place false }
+{
+    let mut places = DeviceSet::empty();
+    for place in 0..LOOKED_AT {
+        if test(place) {
+            places.insert(place);
+        }
+    }
+    places
+}
+
 /// The places of one set and those of another.
-#[tactic(auto, using(crate::proofs::Together::first_within, crate::proofs::Together::second_within))]
+#[tactic(auto, using(crate::proofs::Together::in_both))]
 pub fn both(one: DeviceSet, other: DeviceSet) -> DeviceSet
-    ensures first { IsWithin one result }
-    ensures second { IsWithin other result }
+    ensures each { (place : ℕ) → has_device result place ≡ true
+        ↔ ((has_device one place ≡ true) ⊎ (has_device other place ≡ true)) }
 {
     DeviceSet::from_bits(one.bits() | other.bits())
 }

@@ -1,7 +1,9 @@
 // What the images show before a command is carried out. These are reads alone: each ring is read once.
-ghost use Rattle.std.specs.Prelude.{◌≡◌, ◌<◌, ◌↔◌, IsTrue};
+ghost use Rattle.std.specs.Prelude.{◌≡◌, ◌<◌, ◌≤◌, ◌↔◌, IfNone, IfSome, IsTrue};
+ghost use Rattle.std.specs.List.{Any};
 ghost use Rattle.bank_trait.specs.Disk.{Unchanged};
-ghost use Rattle.raidzx.specs.Places.{ShowsAtPlace};
+ghost use Rattle.raidzx.specs.Standing.{ShowsNothing};
+ghost use Rattle.raidzx.specs.Places.{IsLastAt, IsLastOf, IsOfPoolAt, ShowsAtPlace};
 
 use crate::seen::read_slot;
 use attach_ring::uber_in_slot;
@@ -100,18 +102,37 @@ pub fn greatest(sightings: &[Sighting], pool: Option<u64>) -> Option<Uber> {
 }
 
 /// The pool's greatest uberblock that the image at this place shows for its own number.
-pub fn last_at(sightings: &[Sighting], pool: u64, place: u32) -> Option<Uber> {
-    let mut last: Option<Uber> = None;
-    for sighting in sightings {
-        if is_of_pool_at(sighting, pool, place) && is_later(&sighting.uber, &last) {
-            last = Some(sighting.uber);
-        }
-    }
-    last
+pub fn last_at(sightings: &[Sighting], pool: u64, place: u32) -> Option<Uber>
+    ensures { IfSome result (λ last. IsLastOf sightings.now last pool place) }
+{
+    sightings
+        .iter()
+        .find(|sighting| is_last_at(sightings, *sighting, pool, place))
+        .map(|sighting| sighting.uber)
+}
+
+/// Whether the image at this place shows this uberblock of the pool for its own number, and none of a greater group.
+pub fn is_last_at(sightings: &[Sighting], sighting: &Sighting, pool: u64, place: u32) -> bool
+    ensures { IsTrue result ↔ IsLastAt sightings.now sighting.now pool place }
+{
+    is_of_pool_at(sighting, pool, place)
+        && sightings.iter().all(|other| is_no_later(other, pool, place, sighting.uber.group()))
+}
+
+/// Whether this is no uberblock of the pool in this place of a greater group.
+fn is_no_later(sighting: &Sighting, pool: u64, place: u32, group: u64) -> bool
+    ensures { IsTrue result
+        ↔ (IsOfPoolAt sighting.now pool place → sighting.now.uber.group ≤ group) }
+{
+    !is_of_pool_at(sighting, pool, place) || sighting.uber.group() <= group
 }
 
 /// The greatest uberblock that an image shows, of whatever pool and for whatever number.
-pub fn shown_at(sightings: &[Sighting], place: u32) -> Option<Sighting> {
+pub fn shown_at(sightings: &[Sighting], place: u32) -> Option<Sighting>
+    ensures some { IfSome result (λ sighting.
+        Any (λ other. (other ≡ sighting) × (other.place ≡ place)) sightings.now) }
+    ensures none { IfNone result (ShowsNothing sightings.now place) }
+{
     let mut last: Option<Sighting> = None;
     for sighting in sightings {
         if sighting.place == place {
@@ -131,7 +152,9 @@ fn is_later(uber: &Uber, last: &Option<Uber>) -> bool {
     }
 }
 
-fn is_of_pool_at(sighting: &Sighting, pool: u64, place: u32) -> bool {
+fn is_of_pool_at(sighting: &Sighting, pool: u64, place: u32) -> bool
+    ensures { IsTrue result ↔ IsOfPoolAt sighting.now pool place }
+{
     sighting.place == place && sighting.number == place && sighting.uber.pool() == pool
 }
 
@@ -139,7 +162,7 @@ fn is_of_pool_at(sighting: &Sighting, pool: u64, place: u32) -> bool {
 pub fn shows_at_place(sightings: &[Sighting], pool: u64, place: u32) -> bool
     ensures { IsTrue result ↔ ShowsAtPlace sightings.now pool place }
 {
-    sightings.iter().any(|sighting| {
-        sighting.place == place && sighting.number == place && sighting.uber.pool() == pool
-    })
+    sightings
+        .iter()
+        .any(|sighting| is_of_pool_at(sighting, pool, place))
 }

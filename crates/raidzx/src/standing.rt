@@ -1,7 +1,10 @@
 // What the image at a place is to the pool that is opened.
+ghost use Rattle.std.specs.Prelude.{◌≡◌, ◌+◌, ◌<◌, ◌↔◌, IsTrue};
+ghost use Rattle.raidzx.specs.Places.{IsLastOf};
+ghost use Rattle.raidzx.specs.Standing.{IsJoining, IsSo};
 
 use crate::lives::is_of_another_life;
-use crate::places::{listed_out, missing_places, stands_wrong};
+use crate::places::{listed_out, shown_elsewhere, unnamed_places};
 use crate::sightings::{Sighting, Sightings, last_at, shown_at};
 use core_open::Found;
 use reflow_mark::State;
@@ -48,12 +51,17 @@ pub struct Known {
 }
 
 impl Known {
-    ghost use Rattle.std.specs.Prelude.{◌≡◌, ◌↔◌, ℕ, true};
+    ghost use Rattle.std.specs.Prelude.{◌≡◌, ◌↔◌, ℕ, IsTrue, true};
+    ghost use Rattle.raidzx.specs.Standing.{IsJoining};
     ghost use Rattle.uberblock_ring.specs.Devices.{has_device};
-    ghost use Rattle.raidzx.specs.Missing.{IsMissing};
+    ghost use Rattle.raidzx.specs.Unnamed.{IsUnnamed};
 
     /// What an opening would find of a pool.
-    pub fn by_found(named: u32, sightings: &Sightings, found: &Found) -> Known {
+    pub fn by_found(named: u32, sightings: &Sightings, found: &Found) -> Known
+        ensures named { result.named ≡ named }
+        ensures uber { result.uber ≡ found.now.uber }
+        ensures out { result.out ≡ found.now.out }
+    {
         Known {
             named,
             uber: found.uber,
@@ -63,7 +71,11 @@ impl Known {
     }
 
     /// What is likely of a pool that a look does not choose, by the greatest uberblock of it.
-    pub fn by_greatest(named: u32, sightings: &Sightings, uber: &Uber) -> Known {
+    pub fn by_greatest(named: u32, sightings: &Sightings, uber: &Uber) -> Known
+        ensures named { result.named ≡ named }
+        ensures uber { result.uber ≡ uber.now }
+        ensures out { result.out ≡ result.listed }
+    {
         let listed = listed_out(&sightings.list, uber);
         Known {
             named,
@@ -81,31 +93,32 @@ impl Known {
     }
 
     /// The places of the pool for which no image is named.
-    pub fn missing(&self) -> DeviceSet
-        ensures each { (place : ℕ) → has_device result place ≡ true ↔ IsMissing self.now place }
+    pub fn unnamed(&self) -> DeviceSet
+        ensures each { (place : ℕ) → has_device result place ≡ true ↔ IsUnnamed self.now place }
     {
-        missing_places(self.named, self.disks().min(MOST_DISKS), self.listed)
+        unnamed_places(self.named, self.disks().min(MOST_DISKS), self.listed)
     }
 
     /// Whether this is the place of a disk that is being attached, and of which nothing was copied.
-    fn is_joining(&self, place: u32) -> bool {
+    fn is_joining(&self, place: u32) -> bool
+        ensures { IsTrue result ↔ IsJoining self.now place }
+    {
         let reflow = self.uber.reflow();
         reflow.state == State::None && reflow.from < reflow.to && place == reflow.from
     }
 }
 
 /// What the image at this place is.
-pub fn standing_of(sightings: &Sightings, known: &Known, place: u32) -> Standing {
+pub fn standing_of(sightings: &Sightings, known: &Known, place: u32) -> Standing
+    ensures { IsSo sightings.now known.now place result }
+{
     if place >= known.named {
         return Standing::Unnamed;
     }
     let list = &sightings.list;
     let pool = known.uber.pool();
-    if stands_wrong(list, pool, place) {
-        return match shown_at(list, place) {
-            Some(sighting) => Standing::Elsewhere(sighting),
-            None => Standing::Unread,
-        };
+    if let Some(sighting) = shown_elsewhere(list, pool, place) {
+        return Standing::Elsewhere(sighting);
     }
     match last_at(list, pool, place) {
         Some(last) => standing_by(sightings, known, place, last),
@@ -114,7 +127,10 @@ pub fn standing_of(sightings: &Sightings, known: &Known, place: u32) -> Standing
 }
 
 /// What an image is that shows the pool in its place, and this group of it at last.
-fn standing_by(sightings: &Sightings, known: &Known, place: u32, last: Uber) -> Standing {
+fn standing_by(sightings: &Sightings, known: &Known, place: u32, last: Uber) -> Standing
+    requires { IsLastOf sightings.now.list.items last known.now.uber.pool place }
+    ensures { IsSo sightings.now known.now place result }
+{
     if is_of_another_life(&sightings.list, &known.uber, known.listed, place) {
         return Standing::OtherLife(last);
     }
@@ -138,7 +154,9 @@ fn standing_by(sightings: &Sightings, known: &Known, place: u32, last: Uber) -> 
 }
 
 /// What an image is that doesn't show the pool.
-fn standing_without(sightings: &Sightings, known: &Known, place: u32) -> Standing {
+fn standing_without(sightings: &Sightings, known: &Known, place: u32) -> Standing
+    ensures { IsSo sightings.now known.now place result }
+{
     match shown_at(&sightings.list, place) {
         Some(sighting) => Standing::Foreign(sighting),
         None if sightings.unread.has(place) => Standing::Unread,
@@ -148,6 +166,8 @@ fn standing_without(sightings: &Sightings, known: &Known, place: u32) -> Standin
 }
 
 /// Whether a disk that shows this group at last is out of a pool of this group: one that works is at most two behind.
-pub fn is_behind(last: u64, group: u64) -> bool {
+pub fn is_behind(last: u64, group: u64) -> bool
+    ensures { IsTrue result ↔ (last + 2 < group) }
+{
     last.saturating_add(2) < group
 }

@@ -4,6 +4,6 @@ use Rattle.uberblock_ring.specs.Devices.{has_device}
 use Rattle.raidzx.specs.declared.standing.Known.{Known}
 
 -- The pool has this place, it is behind the images that are named, and the pool's group doesn't list it as out.
-abbrev pub IsMissing : Known → ℕ → Type 0
-IsMissing known place = (place < min known.uber.reflow.to 16)
+abbrev pub IsUnnamed : Known → ℕ → Type 0
+IsUnnamed known place = (place < min known.uber.reflow.to 16)
     × ((known.named ≤ place) × (has_device known.listed place ≡ false))
