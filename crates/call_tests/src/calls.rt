@@ -114,6 +114,21 @@ pub fn call<R: Threads + Wait + Sync>(
     call_held_up(rt, alloc, &OpenGate, words, bank, script)
 }
 
+/// Carries out these words, which tell this and are done, and gives the bank that they leave.
+pub fn carry_out<R: Abort + Threads + Wait + Sync>(
+    rt: &R,
+    alloc: Global,
+    words: &str,
+    bank: MemBank,
+    script: &[u8],
+    text: &[u8],
+) -> Result<MemBank, Fail> {
+    let told = call(rt, alloc, words, bank, script)?;
+    assert_eq!(rt; told.text.as_slice(), text);
+    assert_eq!(rt; told.status, Status::Done);
+    Ok(told.bank)
+}
+
 /// What stands in a device sector.
 pub fn sector_of(rt: &impl Abort, bank: &mut MemBank, device: u32, sector: u64) -> [u8; 512] {
     let mut bytes = [1; 512];

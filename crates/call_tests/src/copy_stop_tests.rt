@@ -94,7 +94,7 @@ fn sums_told(alloc: Global, first: u64, text: &mut Vec<u8>) -> Result<(), AllocE
 }
 
 /// All sectors of four devices, torn so.
-fn all_sectors(alloc: Global, how: Tear) -> Result<Vec<Torn>, AllocError> {
+pub fn all_sectors(alloc: Global, how: Tear) -> Result<Vec<Torn>, AllocError> {
     let mut torn = Vec::new(alloc);
     for device in 0..4 {
         for sector in 0..256 {

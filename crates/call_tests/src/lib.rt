@@ -36,3 +36,5 @@ mod run_tests;
 mod status_tests;
 #[cfg(test)]
 mod stop_tests;
+#[cfg(test)]
+mod whole_way_tests;

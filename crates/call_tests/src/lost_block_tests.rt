@@ -1,5 +1,5 @@
 // A group whose uberblock comes to light late, and the block of the group before it.
-use crate::calls::{RUN, call};
+use crate::calls::{RUN, call, carry_out};
 use bank_mem::{MemBank, Tear, Torn};
 use bank_trait::Bank;
 use raidzx_top::Status;
@@ -59,20 +59,6 @@ const READ_TOLD: [&[u8]; 4] = [
     b"0 group 10 after 0\n1 a.1 get 1 at 1 bytes 61\n2 a.2 get 2 at 2 bytes 62\n",
 ];
 
-/// Carries out a run that tells this and is done, and gives what it left.
-fn carry_out<R: Abort + Threads + Wait + Sync>(
-    rt: &R,
-    alloc: Global,
-    bank: MemBank,
-    script: &[u8],
-    text: &[u8],
-) -> Result<MemBank, Fail> {
-    let told = call(rt, alloc, RUN, bank, script)?;
-    assert_eq!(rt; told.text.as_slice(), text);
-    assert_eq!(rt; told.status, Status::Done);
-    Ok(told.bank)
-}
-
 /// What a stop leaves.
 fn stop(alloc: Global, bank: &MemBank, clock: u64, torn: &[Torn]) -> Result<MemBank, Fail> {
     Ok(MemBank::from_images(alloc, bank.crash_at(alloc, clock, torn)?)?)
@@ -96,7 +82,7 @@ fn bank_with_a_late_uberblock<R: Abort + Threads + Wait + Sync>(
     // The next opening finds group 4 on each device. Its sync of device 0 fails, after the ring and a page.
     bank.fail_at(&[(0, MAKING + OPENING + 9 + 33)])?;
     let text = b"0 group 6 after 0\n1 group 7 after 1\n2 a.1 sync group 7\n";
-    let bank = carry_out(rt, alloc, bank, SYNC, text)?;
+    let bank = carry_out(rt, alloc, RUN, bank, SYNC, text)?;
     // It is stopped after two syncs and one uberblock of group 6, which does not stay.
     stop(alloc, &bank, clock.saturating_add(3), &[LATE])
 }
@@ -117,10 +103,10 @@ fn a_synced_block_stays_where_a_late_uberblock_is_opened_and_its_device_fails(
             }
         }
         let text = b"0 group 7 after 0\n1 group 8 after 1\n2 a.1 sync group 8\n";
-        let bank = carry_out(&rt, alloc, bank, SYNC, text)?;
+        let bank = carry_out(&rt, alloc, RUN, bank, SYNC, text)?;
         let mut left = stop(alloc, &bank, pages, &PAGES)?;
         left.fail_from(0, 0)?;
-        carry_out(&rt, alloc, left, READ, READ_TOLD[2])?;
+        carry_out(&rt, alloc, RUN, left, READ, READ_TOLD[2])?;
         for clock in 0..bank.clock().saturating_add(1) {
             let mut left = stop(alloc, &bank, clock, &[])?;
             left.fail_from(0, 0)?;
