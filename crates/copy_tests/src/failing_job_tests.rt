@@ -42,6 +42,9 @@ fn told_given_up(alloc: Global, pool: &mut PoolOnBank) -> Result<Option<Answer>,
         return Err("no job is due".into());
     };
     pool.meet_failures(alloc, 0)?;
+    if pool.core.out().is_empty() {
+        return Err("no device is out".into());
+    }
     Ok(pool.core.job_give_up(run))
 }
 

@@ -194,6 +194,7 @@ pub use Rattle.core_turns.specs.UnderWay.{HoldingCall, HoldsCall, IsCallOfCore, 
 pub use Rattle.core_turns.specs.UnderWay.{Putting, Reading, SetsContent, ShareNoSector, Stands, TurnGoesOn, actor_of}
 pub use Rattle.core_turns.specs.UnderWay.{hold_of_call, ranges_of, shown_in, shown_of}
 pub use Rattle.core_turns.specs.declared.attaching.AttachRun.{AttachRun}
+pub use Rattle.core_turns.specs.declared.attaching.FreeDevice.{FreeDevice}
 pub use Rattle.core_turns.specs.declared.attaching.AttachRun.TheVariants.{Checked, Joins, Reads, Signs}
 pub use Rattle.core_turns.specs.declared.copying.CopyRun.{CopyRun}
 pub use Rattle.core_turns.specs.declared.filling.Filled.{Filled}

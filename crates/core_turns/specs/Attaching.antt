@@ -1,5 +1,5 @@
 -- Attaches, turn by turn.
-use Rattle.std.specs.Prelude.{◌≡◌, ◌⊎◌, ℕ, ◌+◌, ◌<◌, ◌≤◌, List, [], ◌∷◌, Option, Some, None, ⊤, true, false}
+use Rattle.std.specs.Prelude.{◌≡◌, ◌⊎◌, ℕ, ◌+◌, ◌-◌, ◌<◌, ◌≤◌, List, [], ◌∷◌, get_or, Option, Some, None, ⊤, true, false}
 use Rattle.bank_trait.specs.Causes.{FaultCounted}
 use Rattle.bank_trait.specs.Disk.{Disk, Later, Unchanged}
 use Rattle.bank_trait.specs.Regions.{TouchesOnly}
@@ -27,6 +27,7 @@ use Rattle.core_commit.specs.JoinRun.{JoinRun}
 use Rattle.core_commit.specs.JoinTurns.{JoinSteps}
 use Rattle.core_commit.specs.Joining.{GuestSoFar}
 use Rattle.core_turns.specs.declared.attaching.AttachRun.{AttachRun}
+use Rattle.core_turns.specs.declared.attaching.FreeDevice.{FreeDevice}
 use Rattle.core_turns.specs.declared.attaching.AttachRun.TheVariants.{Reads, Checked, Joins, Signs}
 use Rattle.core_turns.specs.declared.turn.Turn.{Turn}
 use Rattle.core_turns.specs.declared.turn.Turn.TheVariants.{More, Busy, Done}
@@ -62,7 +63,8 @@ pub record IsJoiningDevice (core : Core) (device : ℕ) : Type 0 where
 -- The attach is the one under way in this core.
 abbrev pub IsAttachRunOf : Core → AttachRun → Type 0
 IsAttachRunOf core (Reads ring) = IsJoiningDevice core ring.device
-IsAttachRunOf core (Checked ring) = IsJoiningDevice core ring.device × (ring.slots ≡ 32) × (ring.taken ≡ None)
+IsAttachRunOf core (Checked found) =
+    IsJoiningDevice core found.ring.device × (found.ring.slots ≡ 32) × (found.ring.taken ≡ None)
 IsAttachRunOf core (Joins join) = IsAttachCommit core join.run × MayReachOn core
 IsAttachRunOf core (Signs run because) = IsAttachCommit core run
     × IsMadeAt core.pool.uber.reflow because run.uber.reflow
@@ -70,14 +72,14 @@ IsAttachRunOf core (Signs run because) = IsAttachCommit core run
 -- the commit that an attach makes, once it has begun one
 abbrev pub attach_commit : AttachRun → Option CommitRun
 attach_commit (Reads ring) = None
-attach_commit (Checked ring) = None
+attach_commit (Checked found) = None
 attach_commit (Joins join) = Some join.run
 attach_commit (Signs run because) = Some run
 
 -- The bank has the device that is to join.
 abbrev pub HasNewDevice : Disk → AttachRun → Type 0
 HasNewDevice disk (Reads ring) = ring.device < disk.devices
-HasNewDevice disk (Checked ring) = ring.device < disk.devices
+HasNewDevice disk (Checked found) = found.ring.device < disk.devices
 HasNewDevice disk (Joins join) = join.run.uber.reflow.to < disk.devices
 HasNewDevice disk (Signs run because) = ⊤
 
@@ -85,7 +87,7 @@ HasNewDevice disk (Signs run because) = ⊤
 -- commit that it may join.
 abbrev pub HoldsAttach : Setting → Kept → List Kept → Disk → AttachRun → Type 0
 HoldsAttach setting last begun disk (Reads ring) = HasReadRing disk ring
-HoldsAttach setting last begun disk (Checked ring) = HasReadRing disk ring
+HoldsAttach setting last begun disk (Checked found) = HasReadRing disk found.ring
 HoldsAttach setting last begun disk (Joins join) = (next : Kept) × (begun ≡ next ∷ [])
     × IsWidenable setting last next × (join.run.stage ≡ Lays) × GuestSoFar disk next setting.reach join.guest
 HoldsAttach setting last begun disk (Signs run because) = ⊤
@@ -165,22 +167,30 @@ pub record ReadsNext (before : CoreState) (ring : RingRead) (after : CoreState) 
   pub core : after.core ≡ before.core
   pub unchanged : Unchanged before.disk after.disk
 
--- The ring shows no uberblock, and the device has as many data rows as the pool.
-pub record FindsFree (before : CoreState) (ring : RingRead) (after : CoreState) (next : RingRead) : Type 0 where
+-- The last data sector of a device with so many data rows was read: this is the first byte of what stands there, where
+-- that is told.
+abbrev pub HasReadLast : Disk → ℕ → ℕ → ℕ → Type 0
+HasReadLast disk device rows byte =
+    (known : List ℕ) → disk.reads device (192 + rows - 1) ≡ Some known → get_or known 0 byte ≡ byte
+
+-- The ring shows no uberblock, and the device has as many data rows as the pool: the last one was read.
+pub record FindsFree (before : CoreState) (ring : RingRead) (after : CoreState) (found : FreeDevice) : Type 0 where
   pub few : HasTooManyOut before.core → ⊥
   pub whole : ring.slots ≡ 32
   pub free : ring.taken ≡ None
-  pub same : next ≡ ring
+  pub same : found.ring ≡ ring
+  pub last : HasReadLast before.disk ring.device before.core.pool.uber.reflow.rows found.last
   pub core : after.core ≡ before.core
   pub unchanged : Unchanged before.disk after.disk
 
 -- Another's commit is under way, so that of the attach waits.
-pub record WaitsForCommit (before : CoreState) (ring : RingRead) (after : CoreState) (next : RingRead) : Type 0 where
-  pub few : HasTooManyOut before.core → ⊥
-  pub by : ℕ
-  pub busy : before.core.committing ≡ Some by
-  pub same : next ≡ ring
-  pub state : after ≡ before
+pub record WaitsForCommit (before : CoreState) (found : FreeDevice) (after : CoreState) (next : FreeDevice) : Type 0
+  where
+    pub few : HasTooManyOut before.core → ⊥
+    pub by : ℕ
+    pub busy : before.core.committing ≡ Some by
+    pub same : next ≡ found
+    pub state : after ≡ before
 
 -- The commit of the attach begins, which calls no device.
 pub record BeginsJoining (before : CoreState) (after : CoreState) (join : JoinRun) : Type 0 where
@@ -232,12 +242,12 @@ pub record EndsAttach (before : CoreState) (run : CommitRun) (because : Option W
 -- what a later turn of an attach comes to
 abbrev pub StepsAttach : CoreState → AttachRun → CoreState → Turn AttachRun → Type 0
 StepsAttach before (Reads ring) after (More (Reads next)) = ReadsNext before ring after next
-StepsAttach before (Reads ring) after (More (Checked next)) = FindsFree before ring after next
+StepsAttach before (Reads ring) after (More (Checked found)) = FindsFree before ring after found
 StepsAttach before (Reads ring) after (Done given) =
     StopsAttach before after × IsDeviceRefused before ring after given
-StepsAttach before (Checked ring) after (More (Checked next)) = WaitsForCommit before ring after next
-StepsAttach before (Checked ring) after (More (Joins join)) = BeginsJoining before after join
-StepsAttach before (Checked ring) after (Done given) =
+StepsAttach before (Checked found) after (More (Checked next)) = WaitsForCommit before found after next
+StepsAttach before (Checked found) after (More (Joins join)) = BeginsJoining before after join
+StepsAttach before (Checked found) after (Done given) =
     StopsAttach before after × IsSyncRefused before.core given
 StepsAttach before (Joins join) after (More (Joins next)) =
     StepsJoin before join after (step.GoesOn next) × OnlyGoOut before after

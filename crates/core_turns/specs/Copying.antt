@@ -1,5 +1,5 @@
 -- Copy jobs, turn by turn.
-use Rattle.std.specs.Prelude.{◌≡◌, ◌⊎◌, ℕ, ◌<◌, [], Option, Some, None, Contains, true, false}
+use Rattle.std.specs.Prelude.{◌≡◌, ◌≢◌, ◌⊎◌, ℕ, ◌<◌, [], Option, Some, None, Contains, true, false}
 use Rattle.range_locks.specs.declared.hold.Hold.{Hold}
 use Rattle.range_locks.specs.declared.hold.HoldKind.TheVariants.{Exclusive}
 use Rattle.range_locks.specs.Gaining.{Gains}
@@ -109,8 +109,9 @@ pub record EndsJob (old new : Core) (run : CopyRun) : Type 0 where
     copying = None;
   }
 
--- A job is given up: its sectors are no longer held, and the front is where it was.
+-- A job is given up, since a device is out: its sectors are no longer held, and the front is where it was.
 pub record DropsJob (old new : Core) (run : CopyRun) : Type 0 where
+  pub lost : old.pool.out ≢ 0
   pub ends : EndsHold old.holds new.holds run.hold
   pub rest : new ≡ record old { holds = new.holds; copying = None }
 

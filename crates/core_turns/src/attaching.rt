@@ -23,13 +23,21 @@ use width_map::FIRST_DATA_SECTOR;
 /// Most devices of a pool.
 const MOST_DEVICES: u32 = 16;
 
+/// A device that may join: its ring shows no uberblock, and it has as many data rows as the pool.
+#[derive(Drop)]
+pub struct FreeDevice {
+    ring: RingRead,
+    /// The first byte that its last data sector has: so it has one.
+    last: u8,
+}
+
 /// An attach under way. It holds no sectors.
 #[derive(Drop)]
 pub enum AttachRun {
     /// The ring of the new device is read, a slot a turn.
     Reads(RingRead),
-    /// It shows no uberblock, and the device has as many data rows as the pool: a commit is to begin.
-    Checked(RingRead),
+    /// It may join: a commit is to begin.
+    Checked(FreeDevice),
     /// The first half of that commit, which the device may join.
     Joins(JoinRun),
     /// The second half: with the device, or why it has not joined.
@@ -144,7 +152,7 @@ impl Core {
                     self.read_slot(bank, ring)
                 }
             }
-            AttachRun::Checked(ring) => self.begin_joining(alloc, ring),
+            AttachRun::Checked(device) => self.begin_joining(alloc, device),
             AttachRun::Joins(join) => self.step_join(bank, join),
             AttachRun::Signs { run, why } => self.step_signing(bank, run, why),
         }
@@ -198,25 +206,28 @@ impl Core {
         let last = FIRST_DATA_SECTOR + self.uber.reflow().rows - 1;
         let mut bytes = [0; 512];
         match bank.read(device, last, &mut bytes) {
-            Ok(()) => Turn::More(AttachRun::Checked(ring)),
+            Ok(()) => Turn::More(AttachRun::Checked(FreeDevice {
+                ring,
+                last: bytes[0],
+            })),
             Err(_) => self.stop_attach(Answer::NewDeviceFailed { device }),
         }
     }
 
     /// Begins the commit that the new device may join, unless another is under way.
-    fn begin_joining(&mut self, alloc: Global, ring: RingRead) -> Turn<AttachRun>
-        requires of { IsAttachRunOf self.old (CheckedOf ring) }
+    fn begin_joining(&mut self, alloc: Global, device: FreeDevice) -> Turn<AttachRun>
+        requires of { IsAttachRunOf self.old (CheckedOf device) }
         requires few { HasTooManyOut self.old → ⊥ }
-        ensures steps { (disk : Disk) → StepsAttach (at_disk self.old disk) (CheckedOf ring) (at_disk self.new disk)
+        ensures steps { (disk : Disk) → StepsAttach (at_disk self.old disk) (CheckedOf device) (at_disk self.new disk)
             result }
-        ensures of { (disk : Disk) → HasNewDevice disk (CheckedOf ring) → IsMoreAttach self.new disk result }
+        ensures of { (disk : Disk) → HasNewDevice disk (CheckedOf device) → IsMoreAttach self.new disk result }
     {
         let Some(actor) = self.attaching else {
             unreachable!();
         };
         match self.commit_begin(alloc, actor) {
             Turn::More(run) => Turn::More(AttachRun::Joins(JoinRun::new(run))),
-            Turn::Busy { by: _ } => Turn::More(AttachRun::Checked(ring)),
+            Turn::Busy { by: _ } => Turn::More(AttachRun::Checked(device)),
             Turn::Done(answer) => self.stop_attach(answer),
         }
     }

@@ -1,5 +1,5 @@
 // Copy jobs, turn by turn.
-ghost use Rattle.std.specs.Prelude.{◌≡◌, ◌<◌, ◌↔◌, IsTrue, false};
+ghost use Rattle.std.specs.Prelude.{◌≡◌, ◌≢◌, ◌<◌, ◌↔◌, IsTrue, false};
 ghost use Rattle.core_state.specs.Outs.{OnlyFailedGoOut};
 ghost use Rattle.core_state.specs.Committing.{point_of};
 ghost use Rattle.core_copy.specs.Progress.{call_count};
@@ -118,6 +118,7 @@ impl Core {
     /// they are too many.
     pub fn job_give_up(&mut self, run: CopyRun) -> Option<Answer>
         requires of { IsJobOf self.old run }
+        requires lost { self.old.pool.out ≢ 0 }
         ensures drops { DropsJob self.old self.new run }
         ensures tells { IsGivenUpFor self.old result }
     {

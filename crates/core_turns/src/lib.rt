@@ -21,7 +21,7 @@ mod rounds;
 mod solving;
 mod turn;
 
-pub use attaching::AttachRun;
+pub use attaching::{AttachRun, FreeDevice};
 pub use copying::{CopyRun, JobBegin};
 pub use filling::{Filled, MadeUp, ToFill};
 pub use getting::{GetRun, OutOfMemory};

@@ -1,2 +1,3 @@
 pub mod Sharing
+pub mod Batches
 pub mod Widening

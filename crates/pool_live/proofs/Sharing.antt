@@ -13,13 +13,15 @@ use Rattle.schedule.specs.declared.progress.Progress.{Progress}
 use Rattle.schedule.specs.declared.whole_run.Ended.{Ended}
 use Rattle.schedule.specs.declared.whole_run.Ended.TheVariants.{Whole, Limit}
 use Rattle.schedule.specs.InTurn.{HaveTaken, IsTurnOf, Replay, turns_by}
-use Rattle.schedule.specs.Playing.{HasPlayed, HaveHadTurns, IsReady}
+use Rattle.schedule.specs.Playing.{HasPlayed, IsReady}
 use Rattle.schedule.specs.Replaying.{HasTurn}
 use Rattle.schedule.specs.Turns.{Turns, TurnTaken, last_left, taken_by, turns_of}
 use Rattle.schedule.proofs.run.Coming.{came_nowhere, came_on}
 use Rattle.schedule.proofs.order.InTurn.{gone_counted, gone_taken, taken_more}
+use Rattle.turn_lock.specs.declared.view.Event.{Event}
+use Rattle.turn_lock.specs.Turn.{entries}
 use Rattle.pool_live.specs.declared.live.TurnsTaken.{TurnsTaken}
-use Rattle.pool_live.specs.Sharing.{HasCarriedOut, MovesOn, StandsFor, actors_told}
+use Rattle.pool_live.specs.Sharing.{HasCarriedOut, HaveHadTurns, MovesOn, StandsFor, actors_told}
 
 -- No client has had a turn yet.
 pub had_none : (script : Script) (start : Turns) (room : ℕ) → IsReady script start room
@@ -107,6 +109,17 @@ actors_more [] had = append-nil (replicate had.turns had.actor)
 actors_more (first ∷ told) had =
     ap (λ (l : List ℕ). replicate first.turns first.actor ++ l) (actors_more told had)
     ∙ sym (append_assoc (replicate first.turns first.actor) (actors_told told) (replicate had.turns had.actor))
+
+-- So the state stands for the history with it.
+pub told_on : (script : Script) (start : Option Turns) (seen : List (Event TurnsTaken)) (had : TurnsTaken)
+    (name : List ℕ) (now : Turns) (room taken : ℕ)
+    → StandsFor script start (actors_told (entries seen) ++ replicate had.turns had.actor) now room taken
+    → StandsFor script start (actors_told (entries (seen ++ (record { by = name; entry = had }) ∷ []))) now room taken
+told_on script start seen had name now room taken stands =
+    rw (
+      map-append (λ (event : Event TurnsTaken). event.entry) seen ((record { by = name; entry = had }) ∷ []),
+      actors_more (entries seen) had,
+    ) stands
 
 -- ---- what follows the turns
 

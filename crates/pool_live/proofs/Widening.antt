@@ -122,14 +122,15 @@ carried_as_they_came script carried attaches state items ended turns after liste
 -- The turns were those of an only client.
 pub carried_alone : (script : Script) (attaches : Bool) (state : CoreState) (items : List Item) (ended : Ended) (turns : ℕ)
     (after : CoreState) (listed : List Item) → attaches ≡ false → (TellsExpansion (first_item state.core.pool) → ⊥)
+    → script.clients ≤ 1
     → CarriesOut script [] (turns_from script state items) ended turns after listed
     → CallsAreRight (asked_by script) listed
     → (ended ≡ Whole → IsComplete (asked_by script) listed)
     → IsCarriedWith script attaches state items ended turns after listed
-carried_alone script attaches state items ended turns after listed asks_none rests out calls complete = record {
+carried_alone script attaches state items ended turns after listed asks_none rests few out calls complete = record {
   carried = script;
   carried_is = inr (asks_none, rests, refl);
-  taken = inl out;
+  taken = inl ((asks_none, rests, few), out);
   calls = calls;
   complete = complete;
   limit = λ is. (subst (EndsAs script start out.passed now) is out.ends).1;

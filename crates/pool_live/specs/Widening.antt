@@ -40,7 +40,7 @@ turns_from script state items = turns_of state items (blank_clients script.clien
 abbrev pub IsTakenSo : Script → Bool → GroupItem → Script → CoreState → List Item → Ended → ℕ → CoreState → List Item
     → Type 0
 IsTakenSo script attaches opened carried state items ended turns after listed =
-    CarriesOut carried [] (turns_from carried state items) ended turns after listed
+    (IsAlone script attaches opened × CarriesOut carried [] (turns_from carried state items) ended turns after listed)
     ⊎ ((IsAlone script attaches opened → ⊥) × HasCarriedOut carried (turns_from carried state items) 0 after listed turns)
 
 -- From this state on a script was carried out so, with the client that widens the pool where it has one; and it ended

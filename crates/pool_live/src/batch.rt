@@ -1,13 +1,16 @@
 // The turns that a client has while it holds the lock.
-ghost use Rattle.std.specs.Prelude.{◌≡◌, ◌≤◌, ℕ, List, All};
+ghost use Rattle.std.specs.Prelude.{◌≡◌, ◌↔◌, ◌+◌, ◌≤◌, ℕ, List, All, IsTrue, length};
 ghost use Rattle.core_state.specs.declared.item.Item.{Item as ItemOf};
-ghost use Rattle.client_script.specs.Script.{IsAllowed, calls_of};
+ghost use Rattle.client_script.specs.Script.{IsAllowed, Script as ScriptOf, calls_of};
 ghost use Rattle.core_turns.specs.Core.{CoreState};
 ghost use Rattle.schedule.specs.Computing.{IsComputedFor};
 ghost use Rattle.schedule.specs.Live.{turns_in};
+ghost use Rattle.schedule.specs.InTurn.{IsTurnOf};
 ghost use Rattle.schedule.specs.Playing.{IsReady};
-ghost use Rattle.schedule.specs.Turns.{turns_of};
-ghost use Rattle.pool_live.specs.Sharing.{IsFreeSeat, IsNextFor, MovesOn};
+ghost use Rattle.schedule.specs.Turns.{Turns as TurnsOf, turns_of};
+ghost use Rattle.schedule.specs.declared.computing.ToCompute.TheVariants as to_compute;
+ghost use Rattle.pool_live.specs.declared.batch.Next.TheVariants.{Ended, GoesOn};
+ghost use Rattle.pool_live.specs.Sharing.{AreBegun, ComesTo, HaveAnswered, IsFreeSeat, IsNextFor, MovesOn};
 
 use crate::live::{PoolSeat, Run, Setup, TurnsTaken};
 use bank_trait::Bank;
@@ -30,6 +33,15 @@ pub enum Next {
     Ended,
 }
 
+impl Next {
+    /// Whether a turn follows for which nothing is to be computed first.
+    fn goes_on_at_once(&self) -> bool
+        ensures { IsTrue result ↔ (self.now ≡ GoesOn to_compute.Nothing) }
+    {
+        matches!(self, Next::GoesOn(ToCompute::Nothing))
+    }
+}
+
 /// The turns that a client had one after the other, while no other had one.
 #[derive(Drop)]
 pub struct Batch {
@@ -39,7 +51,8 @@ pub struct Batch {
     pub next: Next,
 }
 
-/// What the client of this number has before it, after a turn by which the journal came from so many items to this.
+/// What the client of this number has before it, after a turn of its by which the journal came from so many items to
+/// this.
 fn next_of(
     alloc: Global,
     progress: &mut Progress,
@@ -52,11 +65,13 @@ fn next_of(
         × IsReady script.now (turns_of state items progress.old.clients.items) room }
     ensures same { progress.new.clients.items ≡ progress.old.clients.items }
     ensures turns { progress.new.turns ≡ progress.old.turns }
-    ensures next { IsNextFor (calls_of script.now actor) result }
+    ensures next { (was now_is : TurnsOf) → IsTurnOf script.now actor was now_is
+        → now_is.clients ≡ progress.old.clients.items → length was.items ≡ before → length now_is.items ≡ now
+        → IsNextFor script.now actor now_is progress.old.turns result }
 {
     if progress.is_busy(actor) {
         Next::GoesOn(progress.to_compute(alloc, script, actor))
-    } else if !progress.has_left(actor, script.calls(actor).len() as u64) {
+    } else if !progress.has_turn(script, actor) {
         Next::Ended
     } else if now == before {
         Next::Waits
@@ -67,7 +82,11 @@ fn next_of(
 
 /// How many of a client's calls were answered by a turn by which the journal came from so many items to this.
 fn count_answered(progress: &Progress, actor: u8, before: usize, now: usize) -> u64
-    ensures { result ≤ 1 }
+    ensures few { result ≤ 1 }
+    ensures answered { (script : ScriptOf) (was now_is : TurnsOf) (count : ℕ) → IsTurnOf script actor was now_is
+        → AreBegun was.clients → now_is.clients ≡ progress.now.clients.items → length was.items ≡ before
+        → length now_is.items ≡ now → HaveAnswered was.clients actor count
+        → HaveAnswered now_is.clients actor (count + result) }
 {
     if now == before || progress.is_busy(actor) {
         0
@@ -76,8 +95,9 @@ fn count_answered(progress: &Progress, actor: u8, before: usize, now: usize) -> 
     }
 }
 
-/// A client's turns, one after the other: with what was computed for the first, and as long as the next asks for
-/// nothing to be computed, finds no other's call in its way, and others have not waited for too many.
+/// A client's turns, one after the other, where it has one to take: with what was computed for the first, and as long
+/// as the next asks for nothing to be computed, finds no other's call in its way, and others have not waited for too
+/// many.
 fn have_turns<B: Bank>(
     alloc: Global,
     live: &mut Live<B>,
@@ -89,7 +109,10 @@ fn have_turns<B: Bank>(
     requires ready { IsReady script.now
         (turns_in B.disk live.old) live.old.journal.room }
     requires computed { IsComputedFor (calls_of script.now actor) computed }
-    ensures next { IsNextFor (calls_of script.now actor) result.next }
+    ensures next { IsNextFor script.now actor (turns_in B.disk live.new) live.new.progress.turns result.next }
+    ensures some { result.turns ≡ 0 → result.next ≡ Ended }
+    ensures answered { (count : ℕ) → HaveAnswered live.old.progress.clients.items actor count
+        → HaveAnswered live.new.progress.clients.items actor (count + result.answered) }
     ensures stands { MovesOn script.now
         (turns_in B.disk live.old)
         live.old.journal.room live.old.progress.turns actor result.turns
@@ -99,6 +122,13 @@ fn have_turns<B: Bank>(
     let mut computed = computed;
     let mut turns = 0;
     let mut answered = 0;
+    if !live.progress.has_turn(script, actor) {
+        return Batch {
+            turns,
+            answered,
+            next: Next::Ended,
+        };
+    }
     for _turn in 0..MOST_AT_ONCE {
         let Ok(()) = live.progress.count() else {
             return Batch {
@@ -112,16 +142,15 @@ fn have_turns<B: Bank>(
         turns += 1;
         let now = live.journal.len();
         answered += count_answered(&live.progress, actor, before, now);
-        match next_of(alloc, &mut live.progress, script, actor, before, now) {
-            Next::GoesOn(ToCompute::Nothing) => computed = Computed::Nothing,
-            next => {
-                return Batch {
-                    turns,
-                    answered,
-                    next,
-                };
-            }
+        let next = next_of(alloc, &mut live.progress, script, actor, before, now);
+        if !next.goes_on_at_once() {
+            return Batch {
+                turns,
+                answered,
+                next,
+            };
         }
+        computed = Computed::Nothing;
     }
     Batch {
         turns,
@@ -142,7 +171,7 @@ pub fn take_turns_of<R: Wait, G, B: Bank, J: Setup>(
     requires seat { IsFreeSeat run.now.turns.now seat.old }
     requires computed { IsComputedFor (calls_of run.now.script.now actor) computed }
     ensures seat { IsFreeSeat run.now.turns.now seat.new }
-    ensures next { IsNextFor (calls_of run.now.script.now actor) result.next }
+    ensures next { ComesTo J.script J.start seat.new actor result.next }
 {
     let Ok(mut held) = run.turns.take(run.host.rt, seat) else {
         return Batch {

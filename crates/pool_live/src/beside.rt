@@ -11,8 +11,9 @@ ghost use Rattle.schedule.specs.Live.{turns_in};
 ghost use Rattle.schedule.specs.Playing.{IsReady};
 ghost use Rattle.schedule.specs.Replaying.{IsAtRest, blank_clients};
 ghost use Rattle.schedule.specs.Turns.{most_turns, turns_of};
-ghost use Rattle.pool_live.specs.Sharing.{AnswersNone, HasCarriedOut, HasStoodFor, IsFreeSeat, IsNextFor};
-ghost use Rattle.pool_live.specs.Sharing.{IsUntouched, MovesOn, StandsFor};
+ghost use Rattle.pool_live.specs.declared.batch.Next.TheVariants.{Ended as EndedOf};
+ghost use Rattle.pool_live.specs.Sharing.{AnswersNone, ComesTo, HasCarriedOut, HasStoodFor, IsFreeSeat};
+ghost use Rattle.pool_live.specs.Sharing.{IsUntouched, StandsFor};
 
 use crate::batch::{Next, take_turns_of};
 use crate::gate::pass_behind;
@@ -31,7 +32,7 @@ use std::thread::{Threads, join, yield_now};
 use turn_lock::{NewRefused, Turns};
 
 /// The calls of one client, some turns at once, and the gate between them. What a turn asks to be computed is computed
-/// before it, while others have theirs. A client without calls takes no turn.
+/// before it, while others have theirs. It ends where the client has no turn to take, or no more can be counted.
 fn run_client<R: Wait, G: Gate, B: Bank, J: Setup>(
     run: &Run<R, G, B, J>,
     mut seat: PoolSeat<B, J>,
@@ -41,10 +42,8 @@ fn run_client<R: Wait, G: Gate, B: Bank, J: Setup>(
     requires allowed { All (λ placed. IsAllowed placed.call) run.now.script.now.calls }
     requires seat { IsFreeSeat run.now.turns.now seat }
     ensures seat { IsFreeSeat run.now.turns.now result }
+    ensures ended { ComesTo J.script J.start result actor EndedOf }
 {
-    if run.script.calls(actor).is_empty() {
-        return seat;
-    }
     let mut computed = Computed::Nothing;
     for _ in run.host.rt.forever() {
         let batch = take_turns_of(run, &mut seat, actor, computed);

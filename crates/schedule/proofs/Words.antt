@@ -171,6 +171,7 @@ pub use Rattle.core_turns.specs.TurnMap.{MapsTurn}
 pub use Rattle.core_turns.specs.UnderWay.{AreCallsOf, Copying, GroupsStand, HoldingCall, Putting, Reading, SetsContent}
 pub use Rattle.core_turns.specs.UnderWay.{Stands, TurnGoesOn, actor_of, ranges_of, shown_in, shown_of}
 pub use Rattle.core_turns.specs.declared.attaching.AttachRun.{AttachRun}
+pub use Rattle.core_turns.specs.declared.attaching.FreeDevice.{FreeDevice}
 pub use Rattle.core_turns.specs.declared.attaching.AttachRun.TheVariants.{Checked, Joins, Reads, Signs}
 pub use Rattle.core_turns.specs.declared.copying.CopyRun.{CopyRun}
 pub use Rattle.core_turns.specs.declared.filling.Filled.{Filled}
@@ -219,13 +220,13 @@ pub use Rattle.schedule.specs.Dropping.{HasDropCause, IsDropCause, IsToBeTold, W
 pub use Rattle.schedule.specs.Fitting.{FitsCall, FitsSince, IsDeviceCause, IsGroupKind}
 pub use Rattle.schedule.specs.InTurn.{Cursor, Goes, HasGone, HaveTaken, InOrder, InRest, InRound, IsCallOfScript}
 pub use Rattle.schedule.specs.InTurn.{IsStepOf, IsTurnOf, Replay, ReplaySteps, after_round, cursor_after, has_left_at}
-pub use Rattle.schedule.specs.InTurn.{is_any_busy, is_busy_at, replay_at, replay_by, turn_at, turns_by}
+pub use Rattle.schedule.specs.InTurn.{has_turn_at, is_any_busy, is_busy_at, replay_at, replay_by, turn_at, turns_by}
 pub use Rattle.schedule.specs.Live.{replay_in, turns_in}
 pub use Rattle.schedule.specs.Moments.{KeepsOn, KeepsTurnByTurn, KeptSoFar, Past}
 pub use Rattle.schedule.specs.Numbered.{GroupsAreNumbered, IsNumbered}
 pub use Rattle.schedule.specs.OfLines.{FollowsLines, callers_in}
 pub use Rattle.schedule.specs.Playing.{AreCopiers, AreSharers, CarriesOut, EndsAs, HasPlayed, HasRoomForAnswers}
-pub use Rattle.schedule.specs.Playing.{HasRunOutOfTurns, HaveHadTurns, IsReady, MakesRoom, UsesRoom, all_owed, calls_by}
+pub use Rattle.schedule.specs.Playing.{HasRunOutOfTurns, IsReady, MakesRoom, UsesRoom, all_owed, calls_by}
 pub use Rattle.schedule.specs.Playing.{owed, sharing_in, sharing_of, sharing_under, taken_for, taken_of}
 pub use Rattle.schedule.specs.Recorded.{AllBelow, IsBegunAt, IsRightNext, Recorded}
 pub use Rattle.schedule.specs.Replaying.{AreIdle, BeginsOne, HasComeRound, HasTurn, HaveBegun, IsAtRest, TakesOne}
@@ -235,7 +236,7 @@ pub use Rattle.schedule.specs.Running.{IsHoldOf, IsTheirs, IsWorkFor, IsWorkOf, 
 pub use Rattle.schedule.specs.Running.{calls_under_way, commit_in, held_by, held_under, setting_now}
 pub use Rattle.schedule.specs.Turned.{AnswersAtOnce, Began, BeginsCall, BeginsWork, EndsPutting, EndsReading, Frees}
 pub use Rattle.schedule.specs.Turned.{GoesOnBy, GoesOnPutting, GoesOnReading, HasDeviceFor, HasDeviceUnder, HasTableOf}
-pub use Rattle.schedule.specs.Turned.{IsFilledIn, LacksRoom, LeavesBegun, LeavesGoing, MayGoOn, Nothing, PutGoesOn}
+pub use Rattle.schedule.specs.Turned.{IsFilledIn, LacksRoom, LeavesBegun, LeavesGoing, MayGoOn, PutGoesOn}
 pub use Rattle.schedule.specs.Turned.{ReadGoesOn, TurnState, Turned, Waits, Went, WorkGoesOn, WritesOn}
 pub use Rattle.schedule.specs.Turned.{entry_for, group_by, group_for, group_with, listed_for, listed_of}
 pub use Rattle.schedule.specs.Turned.{listed_on, listed_with, turn_state}

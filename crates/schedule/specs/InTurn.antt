@@ -1,5 +1,5 @@
 -- Whose turn is next, as a script's order and its lines say, and runs of such turns.
-use Rattle.std.specs.Prelude.{◌≡◌, ℕ, zero, suc, ◌+◌, ◌≤◌, List, [], ◌∷◌, ◌++◌, length, Bool, false, ◌||◌}
+use Rattle.std.specs.Prelude.{◌≡◌, ℕ, zero, suc, ◌+◌, List, [], ◌∷◌, ◌++◌, length, Bool, false, ◌||◌}
 use Rattle.std.specs.Prelude.{if◌then◌else◌, Option, Some, None, is_some, nat_lt, slice_get, ⊤}
 use Rattle.std.specs.List.{list_any}
 use Rattle.bank_trait.specs.Disk.{Disk}
@@ -44,6 +44,11 @@ has_left (Some client) number = nat_lt client.begun number
 abbrev pub has_left_at : List Client → ℕ → ℕ → Bool
 has_left_at clients actor number = has_left (slice_get clients actor) number
 
+-- whether it has a turn to take: of its call under way, or of one that it hasn't begun
+abbrev pub has_turn_at : Script → List Client → ℕ → Bool
+has_turn_at script clients actor =
+    is_busy_at clients actor || has_left_at clients actor (length (calls_of script actor))
+
 -- The call of a script after so many is this client's, and has this number among its calls, from 1.
 pub record IsCallOfScript (script : Script) (given actor number : ℕ) : Type 0 where
   pub placed : Placed
@@ -58,10 +63,11 @@ turn_in_rest script clients given (Some placed) =
     if is_busy_at clients placed.actor || has_left_at clients placed.actor (given_of script given placed.actor + 1)
     then Some placed.actor else None
 
--- whose turn is next, if it is anyone's there
+-- whose turn is next, if it is anyone's there: a letter of a client that has none is passed over
 abbrev pub turn_at : Script → List Client → Cursor → Option ℕ
 turn_at script clients (InOrder []) = None
-turn_at script clients (InOrder (letter ∷ letters)) = Some letter
+turn_at script clients (InOrder (letter ∷ letters)) =
+    if has_turn_at script clients letter then Some letter else None
 turn_at script clients (InRound actor) = if is_busy_at clients actor then Some actor else None
 turn_at script clients (InRest given) = turn_in_rest script clients given (slice_get script.calls given)
 
@@ -85,15 +91,16 @@ cursor_after script clients (InRest given) =
 
 -- ---- turns
 
--- The client of this number has one turn, and the others stay as they are; where no client has the number, nothing is
--- done.
+-- The client of this number has one turn, of its call under way or of its next one, and the others stay as they are. So a
+-- client that has neither has no turn. One in which the next call finds another's in its way is a turn: the client waits.
 pub record IsTurnOf (script : Script) (actor : ℕ) (before after : Turns) : Type 0 where
-  pub none : length before.clients ≤ actor → after ≡ before
-  pub one : (client : Client) → slice_get before.clients actor ≡ Some client → (now : Client)
-      × Turned (calls_of script actor) actor
+  pub client : Client
+  pub there : slice_get before.clients actor ≡ Some client
+  pub now : Client
+  pub turned : Turned (calls_of script actor) actor
       (record { state = before.state; items = before.items; client = client })
       (record { state = after.state; items = after.items; client = now })
-      × Changes before.clients after.clients actor now
+  pub changes : Changes before.clients after.clients actor now
 
 -- what the calls have come to, where the replay is, and how many turns it took
 pub record Replay : Type 0 where

@@ -1,5 +1,5 @@
 -- What stands while a script is carried out, and how that ends.
-use Rattle.std.specs.Prelude.{◌≡◌, ℕ, suc, ◌+◌, ◌-◌, ◌*◌, ◌≤◌, List, [], ◌∷◌, length, map, Option, Some, None, ⊤}
+use Rattle.std.specs.Prelude.{◌≡◌, ℕ, suc, ◌+◌, ◌-◌, ◌*◌, ◌≤◌, List, [], ◌∷◌, length, Option, Some, None, ⊤}
 use Rattle.range_locks.specs.Order.{shared_count}
 use Rattle.core_state.specs.declared.item.Item.{Item}
 use Rattle.client_script.specs.Script.{Script, calls_of}
@@ -16,7 +16,7 @@ use Rattle.schedule.specs.declared.client.Work.{Work}
 use Rattle.schedule.specs.declared.client.Work.TheVariants as work
 use Rattle.schedule.specs.Clients.{answered_of}
 use Rattle.schedule.specs.Coming.{LeadTo, IsSchedule}
-use Rattle.schedule.specs.InTurn.{Cursor, InOrder, InRest, HasGone, HaveTaken, Replay, replay_at}
+use Rattle.schedule.specs.InTurn.{Cursor, InOrder, InRest, HasGone, Replay, replay_at}
 use Rattle.schedule.specs.Running.{IsGoing}
 use Rattle.schedule.specs.Turned.{group_by}
 use Rattle.schedule.specs.Works.{made_by, made_in}
@@ -111,16 +111,6 @@ pub record HasPlayed (script : Script) (start now : Replay) (room : ℕ) : Type 
   pub come : LeadTo script start.turns passed now.turns
   pub gone : HasGone script start passed now
   pub ready : IsReady script now.turns room
-
--- Each of these clients has had a turn, in this order, whoever's turn it would have been by a script's order: a turn of
--- a client that there is not does nothing. What has to stand before a turn stands after them, and what stood stands, with
--- the journal grown by what the turns answered.
-pub record HaveHadTurns (script : Script) (start : Turns) (actors : List ℕ) (now : Turns) (room : ℕ) : Type 0 where
-  pub passed : List TurnTaken
-  pub actors_are : map (λ turn. turn.actor) passed ≡ actors
-  pub taken : HaveTaken script start passed
-  pub come : LeadTo script start passed now
-  pub ready : IsReady script now room
 
 -- Turns have come so far that no more can be counted.
 pub record HasRunOutOfTurns (script : Script) (start : Replay) (turns : Turns) (taken room : ℕ) : Type 0 where

@@ -1,5 +1,5 @@
 -- What one turn of a client does.
-use Rattle.std.specs.Prelude.{◌≡◌, ◌⊎◌, ℕ, ◌+◌, ◌-◌, ◌≤◌, ◌<◌, List, [], ◌∷◌, ◌++◌, length, Option, Some, None}
+use Rattle.std.specs.Prelude.{◌≡◌, ◌⊎◌, ℕ, ◌+◌, ◌-◌, ◌<◌, List, [], ◌∷◌, ◌++◌, length, Option, Some, None}
 use Rattle.std.specs.Prelude.{slice_get, ⊤}
 use Rattle.bank_trait.specs.Disk.{Disk, Unchanged}
 use Rattle.reflow_mark.specs.declared.reflow.Reflow.{Reflow}
@@ -226,12 +226,6 @@ pub record TurnState : Type 0 where
 abbrev pub turn_state : Core → Disk → List Item → Client → TurnState
 turn_state core disk items client = record { state = at_disk core disk; items = items; client = client }
 
--- The client has begun all its calls, and none is under way.
-pub record HasNothingLeft (calls : List ScriptCall) (before after : TurnState) : Type 0 where
-  pub idle : before.client.under_way ≡ None
-  pub none : length calls ≤ before.client.begun
-  pub same : after ≡ before
-
 -- The client's next call begins, waits, or is answered at once.
 pub record BeginsNext (calls : List ScriptCall) (actor : ℕ) (before after : TurnState) (turn : Turn Work) : Type 0 where
   pub idle : before.client.under_way ≡ None
@@ -290,9 +284,8 @@ LeavesGoing actor call before after under (Done given) =
     (entry_for call actor before.client.begun under.at given) (made_by under.work) given)
     × (after.client ≡ record { begun = before.client.begun; under_way = None })
 
--- a turn of a client
+-- a turn of a client: of its next call, or of its call under way
 pub data Turned (calls : List ScriptCall) (actor : ℕ) (before after : TurnState) : Type 0 where
-  Nothing : HasNothingLeft calls before after → Turned calls actor before after
   Began : (turn : Turn Work) (begins : BeginsNext calls actor before after turn)
       → LeavesBegun actor begins.call before after turn → Turned calls actor before after
   Went : (under : UnderWay) (turn : Turn Work) (goes : CallGoesOn calls before after under turn)

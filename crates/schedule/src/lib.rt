@@ -4,7 +4,7 @@
 //! call, or the next one of its call under way. Read `specs/WholeRun.antt` for what a run promises and
 //! `specs/InTurn.antt` for whose turn is next, then `specs/Running.antt`, `specs/Turned.antt` and
 //! `specs/Coming.antt` for how it goes on; `specs/Turns.antt` for the turn that listed an item, and
-//! `HaveHadTurns` of `specs/Playing.antt` for the law of turns. Stands on `core_turns`, `core_open`,
+//! `HasPlayed` of `specs/Playing.antt` for the law of turns. Stands on `core_turns`, `core_open`,
 //! `client_script` and `journal_law`.
 #![tactic(auto)]
 

@@ -6,7 +6,7 @@ ghost use Rattle.core_turns.specs.Core.{CoreState};
 ghost use Rattle.schedule.specs.declared.client.Client.{Client as ClientOf};
 ghost use Rattle.schedule.specs.Computing.{IsComputable, IsAskedBy};
 ghost use Rattle.schedule.specs.Playing.{IsReady};
-ghost use Rattle.schedule.specs.InTurn.{has_left_at, is_any_busy, is_busy_at};
+ghost use Rattle.schedule.specs.InTurn.{has_left_at, has_turn_at, is_any_busy, is_busy_at};
 ghost use Rattle.schedule.specs.Turns.{most_turns, turns_of};
 ghost use Rattle.schedule.specs.Replaying.{blank_clients};
 
@@ -67,6 +67,14 @@ impl Progress {
             Some(client) => (client.begun as u64) < number,
             None => false,
         }
+    }
+
+    /// Whether the client of this number has a turn to take: of its call under way, or of a call of the script that it
+    /// hasn't begun.
+    pub fn has_turn(&self, script: &Script, actor: u8) -> bool
+        ensures { result ≡ has_turn_at script.now self.now.clients.items actor }
+    {
+        self.is_busy(actor) || self.has_left(actor, script.calls(actor).len() as u64)
     }
 
     /// What the next turn of the call that a client has under way asks to be computed. What a read got is shared for

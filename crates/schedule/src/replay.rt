@@ -1,5 +1,5 @@
 // The calls of a script, turn by turn.
-ghost use Rattle.std.specs.Prelude.{◌≡◌, ◌+◌, ◌*◌, ◌<◌, ◌≤◌, ℕ, List, All, IfOk, OnOk, OnErr, Some, [], length};
+ghost use Rattle.std.specs.Prelude.{◌≡◌, ◌+◌, ◌*◌, ◌<◌, ◌≤◌, ◌∷◌, ℕ, List, All, IfOk, OnOk, OnErr, Some, [], length};
 ghost use Rattle.std.specs.Prelude.{slice_get, true};
 ghost use Rattle.core_state.specs.declared.item.Entry.{Entry as EntryOf};
 ghost use Rattle.core_state.specs.Journal.{CallsAreRight, IsComplete};
@@ -10,9 +10,9 @@ ghost use Rattle.schedule.specs.declared.client.Client.{Client as ClientOf};
 ghost use Rattle.schedule.specs.declared.whole_run.Ended.TheVariants.{Whole};
 ghost use Rattle.schedule.specs.Turns.{most_turns, turns_of};
 ghost use Rattle.schedule.specs.Computing.{IsComputedFor};
-ghost use Rattle.schedule.specs.InTurn.{Cursor, InOrder, InRest, InRound, IsCallOfScript, has_left_at};
+ghost use Rattle.schedule.specs.InTurn.{Cursor, InOrder, InRest, InRound, IsCallOfScript, has_left_at, has_turn_at};
 ghost use Rattle.schedule.specs.Live.{replay_in, turns_in};
-ghost use Rattle.schedule.specs.Playing.{CarriesOut, HasPlayed, HaveHadTurns, HasRunOutOfTurns, IsReady};
+ghost use Rattle.schedule.specs.Playing.{CarriesOut, HasPlayed, HasRunOutOfTurns, IsReady};
 ghost use Rattle.schedule.specs.Replaying.{AreIdle, BeginsOne, HasComeRound, HasTurn, HaveBegun, IsAtRest};
 ghost use Rattle.schedule.specs.Replaying.{blank_clients};
 
@@ -27,8 +27,7 @@ use core_state::Journal;
 use core_turns::Core;
 use std::alloc::{AllocError, Global};
 
-/// One turn of a client of the script, if there is one of this number, with what was computed for it. It is not
-/// counted.
+/// One turn of a client of the script that has one to take, with what was computed for it. It is not counted.
 pub fn turn_of<B: Bank>(
     alloc: Global,
     live: &mut Live<B>,
@@ -40,6 +39,7 @@ pub fn turn_of<B: Bank>(
     requires computed { IsComputedFor (calls_of script.now actor) computed }
     requires ready { IsReady script.now
         (turns_in B.disk live.old) live.old.journal.room }
+    requires left { has_turn_at script.now live.old.progress.clients.items actor ≡ true }
     ensures turn { HasTurn script.now actor
         (turns_in B.disk live.old)
         (turns_in B.disk live.new) }
@@ -47,23 +47,20 @@ pub fn turn_of<B: Bank>(
         (turns_in B.disk live.new) live.new.journal.room }
     ensures turns { live.new.progress.turns ≡ live.old.progress.turns }
 {
-    let place = usize::from(actor);
-    if place < live.progress.clients.len() {
-        let client = &mut live.progress.clients[place];
-        take_turn(
-            alloc,
-            &mut live.bank,
-            &mut live.core,
-            &mut live.journal,
-            script.calls(actor),
-            actor,
-            client,
-            computed,
-        );
-    }
+    let client = &mut live.progress.clients[usize::from(actor)];
+    take_turn(
+        alloc,
+        &mut live.bank,
+        &mut live.core,
+        &mut live.journal,
+        script.calls(actor),
+        actor,
+        client,
+        computed,
+    );
 }
 
-/// One turn of a client of the script, counted, if it can be.
+/// One turn of a client of the script that has one to take, counted, if it can be.
 fn count_turn_of<B: Bank>(
     alloc: Global,
     live: &mut Live<B>,
@@ -73,6 +70,7 @@ fn count_turn_of<B: Bank>(
     requires allowed { All (λ placed. IsAllowed placed.call) script.now.calls }
     requires ready { IsReady script.now
         (turns_in B.disk live.old) live.old.journal.room }
+    requires left { has_turn_at script.now live.old.progress.clients.items actor ≡ true }
     ensures turn { OnOk result (HasTurn script.now actor
         (turns_in B.disk live.old)
         (turns_in B.disk live.new)) }
@@ -89,7 +87,31 @@ fn count_turn_of<B: Bank>(
     Ok(())
 }
 
-/// A turn for each client of a list, in its order, whoever they are: a number that no client has is passed over.
+/// One turn for the client of a letter, where it has one to take.
+fn take_letter<B: Bank>(
+    alloc: Global,
+    live: &mut Live<B>,
+    script: &Script,
+    actor: u8,
+) -> Result<(), UsedUp>
+    requires allowed { All (λ placed. IsAllowed placed.call) script.now.calls }
+    requires ready { IsReady script.now
+        (turns_in B.disk live.old) live.old.journal.room }
+    ensures played { OnOk result ((letters : List ℕ) → HasPlayed script.now
+        (replay_in B.disk live.old (InOrder (actor ∷ letters)))
+        (replay_in B.disk live.new (InOrder letters)) live.new.journal.room) }
+    ensures stopped { OnErr result ((letters : List ℕ) → HasRunOutOfTurns script.now
+        (replay_in B.disk live.old (InOrder (actor ∷ letters)))
+        (turns_in B.disk live.new) live.new.progress.turns live.new.journal.room) }
+{
+    if !live.progress.has_turn(script, actor) {
+        return Ok(());
+    }
+    count_turn_of(alloc, live, script, actor)?;
+    Ok(())
+}
+
+/// A turn for each client of a list, in its order, whoever they are: one that has none to take is passed over.
 pub fn take_listed<B: Bank>(
     alloc: Global,
     live: &mut Live<B>,
@@ -99,9 +121,6 @@ pub fn take_listed<B: Bank>(
     requires allowed { All (λ placed. IsAllowed placed.call) script.now.calls }
     requires ready { IsReady script.now
         (turns_in B.disk live.old) live.old.journal.room }
-    ensures turns { OnOk result (HaveHadTurns script.now
-        (turns_in B.disk live.old) listed.now
-        (turns_in B.disk live.new) live.new.journal.room) }
     ensures played { OnOk result (HasPlayed script.now
         (replay_in B.disk live.old (InOrder listed.now))
         (replay_in B.disk live.new (InOrder [])) live.new.journal.room) }
@@ -110,7 +129,7 @@ pub fn take_listed<B: Bank>(
         (turns_in B.disk live.new) live.new.progress.turns live.new.journal.room) }
 {
     for actor in listed {
-        count_turn_of(alloc, live, script, *actor)?;
+        take_letter(alloc, live, script, *actor)?;
     }
     Ok(())
 }
@@ -276,8 +295,8 @@ pub fn begin(alloc: Global, script: &Script, journal: &mut Journal) -> Result<Pr
 }
 
 /// Carries out the calls of a script turn by turn. Each letter of the order is one turn of that client: the
-/// next of its call under way, or the first of its next call; one that finds another's call in its way, or
-/// has nothing left, does nothing, and is a turn. After the order the calls under way take one turn each in letter
+/// next of its call under way, or the first of its next call; one that finds another's call in its way does nothing,
+/// and is a turn. A letter of a client that has nothing left is passed over. After the order the calls under way take one turn each in letter
 /// order, round after round, until all have ended; then the remaining calls are carried out one after the other,
 /// whole, in the order of their lines. Room for all answers is made before the first turn, so that none is kept
 /// from being listed; where there is no memory for that, nothing is done. After 2^62 turns no more is taken: calls

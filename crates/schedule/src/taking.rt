@@ -152,7 +152,8 @@ fn begin_next<B: Bank>(
     client: &mut Client,
 )
     requires allowed { (number : ℕ) (call : CallOf) → slice_get calls.now number ≡ Some call → IsAllowed call }
-    requires room { client.old.begun < length calls.now → 2 ≤ journal.old.room }
+    requires left { client.old.begun < length calls.now }
+    requires room { 2 ≤ journal.old.room }
     requires idle { client.old.under_way ≡ None }
     ensures turned { Turned calls.now actor
         (turn_state core.old (B.disk bank.now) journal.old.items client.old)
@@ -162,9 +163,7 @@ fn begin_next<B: Bank>(
         → HasBankOf core.new disk }
     ensures room { UsesRoom journal.old.room journal.new.room client.old client.new }
 {
-    let Some(call) = calls.get(client.begun) else {
-        return;
-    };
+    let call = &calls[client.begun];
     let at = journal.len();
     match begin_call(alloc, bank, core, actor, call) {
         Turn::More(work) => {
@@ -180,7 +179,7 @@ fn begin_next<B: Bank>(
 }
 
 /// One turn of a client: the next of its call under way, or the first of its next call; with what was computed for
-/// it, if anything was. Nothing is done where that finds another's call in its way, or the client has no call left.
+/// it, if anything was. Nothing is done where that finds another's call in its way.
 /// Takes room in the journal where a call is answered, and for two items at most.
 pub fn take_turn<B: Bank>(
     alloc: Global,
@@ -194,6 +193,7 @@ pub fn take_turn<B: Bank>(
 )
     requires allowed { (number : ℕ) (call : CallOf) → slice_get calls.now number ≡ Some call → IsAllowed call }
     requires computed { IsComputedFor calls.now computed }
+    requires left { client.old.under_way ≡ None → client.old.begun < length calls.now }
     requires room { owed (length calls.now) client.old ≤ journal.old.room }
     requires bank { HasBankOf core.old (B.disk bank.old) }
     requires few { client.old.begun ≤ length calls.now }

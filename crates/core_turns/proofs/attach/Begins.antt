@@ -1,6 +1,6 @@
 -- The commit of an attach begins: its group may be made with the new device, which is free.
 use Rattle.core_turns.proofs.Words.{◌≡◌, ℕ, ◌≤◌, List, [], ◌∷◌, Some, None, sym, ◌∙◌, ap, arith, All-cons, All-nil}
-use Rattle.core_turns.proofs.Words.{Disk, Lawful, Uber, HasReadRing, RingRead, Map, Kept, Setting, IsWidenable}
+use Rattle.core_turns.proofs.Words.{FreeDevice, Disk, Lawful, Uber, HasReadRing, Map, Kept, Setting, IsWidenable}
 use Rattle.core_turns.proofs.Words.{reach_less, Laid, JoinRun, GuestSoFar, free_is_blank, Chooses, KeepsOrEnds, Checked}
 use Rattle.core_turns.proofs.Words.{Joins, Core, CoreState, IsCore, at_disk, BeginsJoining, HasNewDevice, HoldsAttach}
 use Rattle.core_turns.proofs.Words.{IsAttachRunOf, HoldingCall, AreCallsOf, Stands}
@@ -28,11 +28,11 @@ narrow_stands {setting} {last} {state = state} stands =
 -- ---- its first turn
 
 module _ {setting : Setting} {last : Kept} {begun : List Kept} {map : Map} {contents : ℕ → List ℕ}
-    {calls : List HoldingCall} {before after : CoreState} {join : JoinRun} (ring : RingRead) (is : IsCore before.core)
-    (lawful : Lawful before.disk) (of : IsAttachRunOf before.core (Checked ring))
-    (there : HasNewDevice before.disk (Checked ring)) (joins : BeginsJoining before after join)
+    {calls : List HoldingCall} {before after : CoreState} {join : JoinRun} (found : FreeDevice) (is : IsCore before.core)
+    (lawful : Lawful before.disk) (of : IsAttachRunOf before.core (Checked found))
+    (there : HasNewDevice before.disk (Checked found)) (joins : BeginsJoining before after join)
     (are : AreCallsOf before.core calls) (stands : Stands setting last begun map contents calls None before)
-    (read : HasReadRing before.disk ring) where
+    (read : HasReadRing before.disk found.ring) where
   abbrev width : ℕ
   width = before.core.pool.uber.reflow.to
 

@@ -23,7 +23,7 @@ attach_still old new run leaves attaching = search (attach_kept, commit_still)
 -- It has no commit under way yet.
 abbrev pub IsBeforeCommit : AttachRun → Type 0
 IsBeforeCommit (Reads ring) = Unit {0}
-IsBeforeCommit (Checked ring) = Unit {0}
+IsBeforeCommit (Checked found) = Unit {0}
 IsBeforeCommit other = ⊥
 
 -- Another's commit begins, which leaves all but holds and who commits.

@@ -51,9 +51,9 @@ attach_goes before after (Reads ring) (More (Reads next)) is lawful of steps =
     looked before after (rw steps.core) (rw steps.core) steps.unchanged
 attach_goes before after (Reads ring) (More (Checked next)) is lawful of steps =
     looked before after (rw steps.core) (rw steps.core) steps.unchanged
-attach_goes before after (Checked ring) (More (Checked next)) is lawful of steps =
+attach_goes before after (Checked found) (More (Checked next)) is lawful of steps =
     none_called before after (cc) (cc) (cc)
-attach_goes before after (Checked ring) (More (Joins join)) is lawful of steps =
+attach_goes before after (Checked found) (More (Joins join)) is lawful of steps =
     none_called before after (cc) (cc) steps.disk
 attach_goes before after (Joins join) (More (Joins next)) is lawful of steps =
     joining before after join (step.GoesOn next) is lawful of.0 of.1 steps.0 (rw steps.1) (inl (rw steps.1))

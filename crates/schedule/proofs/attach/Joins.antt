@@ -1,6 +1,6 @@
 -- What the turn of an attach comes to in which its commit begins, among the other clients' calls.
-use Rattle.schedule.proofs.Words.{◌≡◌, ℕ, ◌-◌, List, Some, refl, sym, ◌∙◌, ap, subst, arith, slice_get, RingRead}
-use Rattle.schedule.proofs.Words.{JoinRun, Item, Kept, World, ScriptCall, Script, calls_of, width_step_where, Checked}
+use Rattle.schedule.proofs.Words.{◌≡◌, ℕ, ◌-◌, List, Some, refl, sym, ◌∙◌, ap, subst, arith, slice_get}
+use Rattle.schedule.proofs.Words.{FreeDevice, JoinRun, Item, Kept, World, ScriptCall, Script, calls_of, width_step_where, Checked}
 use Rattle.schedule.proofs.Words.{Joins, More, BeginsJoining, IsAttachRunOf, Core, attach_joins_stands}
 use Rattle.schedule.proofs.Words.{commit_begins_calls, few_out, Client, UnderWay, TakesTurn, IsBegunAt, HasDeviceUnder}
 use Rattle.schedule.proofs.Words.{LeavesGoing, TurnState, WorkGoesOn}
@@ -18,18 +18,18 @@ begun_tells : {told : Type 0} {world : World} {items : List Item} {item : GroupI
 begun_tells begun = search (width_step_where, arith)
 
 module _ {script : Script} {actor : ℕ} {before after : TurnState} {clients news : List Client} {call : ScriptCall}
-    (takes : TakesTurn script actor before after clients news) {under : UnderWay} {ring : RingRead} {join : JoinRun}
-    (does_is : under.work ≡ work.Attach (Checked ring)) (under_is : before.client.under_way ≡ Some under)
+    (takes : TakesTurn script actor before after clients news) {under : UnderWay} {found : FreeDevice} {join : JoinRun}
+    (does_is : under.work ≡ work.Attach (Checked found)) (under_is : before.client.under_way ≡ Some under)
     (is : slice_get (calls_of script actor) (before.client.begun - 1) ≡ Some call)
-    (goes : WorkGoesOn (work.Attach (Checked ring)) before.state after.state)
+    (goes : WorkGoesOn (work.Attach (Checked found)) before.state after.state)
     (joins : BeginsJoining before.state after.state join) (of : IsAttachRunOf after.state.core (Joins join)) where
   open before.state use {core as old}
   open after.state use {core as now}
 
-  abbrev from : GoesFrom script actor before after clients news call under (work.Attach (Checked ring))
+  abbrev from : GoesFrom script actor before after clients news call under (work.Attach (Checked found))
   from = record { takes = takes; does_is = does_is; under_is = under_is; is = is }
 
-  of_core : IsAttachRunOf old (Checked ring) × (old.attaching ≡ Some actor)
+  of_core : IsAttachRunOf old (Checked found) × (old.attaching ≡ Some actor)
   of_core = its_attach from
 
   -- The commit of an attach begins.
@@ -41,7 +41,7 @@ module _ {script : Script} {actor : ℕ} {before after : TurnState} {clients new
       (λ same client_is world past handed within listed runs.
       let alone = stands_idle runs joins.begins.none in
       let unmade = alone.1 in
-      let made = attach_joins_stands ring takes.is takes.lawful of_core.0
+      let made = attach_joins_stands found takes.is takes.lawful of_core.0
       (rw does_is at (subst (HasDeviceUnder before.state.disk) under_is
       (takes.schedule.there actor before.client takes.was))) joins takes.schedule.going.are unmade
       (its_known from runs) in

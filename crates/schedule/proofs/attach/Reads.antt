@@ -4,7 +4,7 @@ use Rattle.schedule.proofs.Words.{◌≡◌, arith, call_of_client, MakesCommit,
 use Rattle.schedule.proofs.Words.{sym, ◌∙◌, ap, subst, slice_get, Disk, Lawful, Unchanged, later_refl, Uber, ReadsSlot}
 use Rattle.schedule.proofs.Words.{RingRead, one_more_read, IsOnInUse, read_touches, unchanged_none, Answer, Entry, Item}
 use Rattle.schedule.proofs.Words.{Map, PutBytes, map_after_answer, map_of, World, ScriptCall, Script, calls_of}
-use Rattle.schedule.proofs.Words.{AttachRun, Reads, Checked, Signs, More, Done, AttachGoesOn, FindsFree, HoldsAttach}
+use Rattle.schedule.proofs.Words.{FreeDevice, AttachRun, Reads, Checked, Signs, More, Done, AttachGoesOn, FindsFree, HoldsAttach}
 use Rattle.schedule.proofs.Words.{IsAttachRunOf, IsDeviceRefused, ReadsNext, StopsAttach, WaitsForCommit, attach_commit}
 use Rattle.schedule.proofs.Words.{IsSyncRefused, Core, CoreState, HasBankOf, IsCore, at_disk, HasTooManyOut, Stands}
 use Rattle.schedule.proofs.Words.{attaching_calls, attaching_stands, look_stands, attaching_commit, rests, since_read}
@@ -147,7 +147,7 @@ reads_still : {before after : Disk} (ring : RingRead) {next : RingRead} → Unch
 reads_still ring unchanged reads = grind arith
 
 module _ {script : Script} {actor : ℕ} {before after : TurnState} {clients news : List Client} {call : ScriptCall}
-    (takes : TakesTurn script actor before after clients news) {under : UnderWay} (ring : RingRead)
+    (takes : TakesTurn script actor before after clients news) {under : UnderWay}
     (under_is : before.client.under_way ≡ Some under)
     (is : slice_get (calls_of script actor) (before.client.begun - 1) ≡ Some call)
     (goes : (AttachGoesOn before.state after.state)
@@ -157,33 +157,33 @@ module _ {script : Script} {actor : ℕ} {before after : TurnState} {clients new
   from does_is = record { takes = takes; does_is = does_is; under_is = under_is; is = is }
 
   -- One more slot of the ring is read,
-  pub reads_next : (next : RingRead) → under.work ≡ work.Attach (Reads ring)
+  pub reads_next : (ring next : RingRead) → under.work ≡ work.Attach (Reads ring)
       → ReadsNext before.state ring after.state next → IsAttachRunOf after.state.core (Reads next)
       → LeavesGoing actor call before after under (More (work.Attach (Reads next))) → ItComes takes
-  reads_next next does_is did of leaves = attach_looks (from does_is) goes refl (Reads next) did.core did.unchanged refl
+  reads_next ring next does_is did of leaves = attach_looks (from does_is) goes refl (Reads next) did.core did.unchanged refl
       of (λ world past runs. one_more_read after.state.disk ring next (reads_still ring did.unchanged did.reads)
       (its_known (from does_is) runs)) leaves
 
   -- it is found free,
-  pub finds_free : (next : RingRead) → under.work ≡ work.Attach (Reads ring)
-      → FindsFree before.state ring after.state next → IsAttachRunOf after.state.core (Checked next)
-      → LeavesGoing actor call before after under (More (work.Attach (Checked next))) → ItComes takes
-  finds_free next does_is did of leaves = attach_looks (from does_is) goes refl (Checked next) did.core did.unchanged
-      refl of (λ world past runs. rw did.same (its_known (from does_is) runs)) leaves
+  pub finds_free : (ring : RingRead) (found : FreeDevice) → under.work ≡ work.Attach (Reads ring)
+      → FindsFree before.state ring after.state found → IsAttachRunOf after.state.core (Checked found)
+      → LeavesGoing actor call before after under (More (work.Attach (Checked found))) → ItComes takes
+  finds_free ring found does_is did of leaves = attach_looks (from does_is) goes refl (Checked found) did.core
+      did.unchanged refl of (λ world past runs. rw did.same (its_known (from does_is) runs)) leaves
 
   -- or the attach waits for another's commit.
-  pub waits_on : (next : RingRead) → under.work ≡ work.Attach (Checked ring)
-      → WaitsForCommit before.state ring after.state next → IsAttachRunOf after.state.core (Checked next)
+  pub waits_on : (found next : FreeDevice) → under.work ≡ work.Attach (Checked found)
+      → WaitsForCommit before.state found after.state next → IsAttachRunOf after.state.core (Checked next)
       → LeavesGoing actor call before after under (More (work.Attach (Checked next))) → ItComes takes
-  waits_on next does_is did of leaves = attach_looks (from does_is) goes refl (Checked next) (cc)
+  waits_on found next does_is did of leaves = attach_looks (from does_is) goes refl (Checked next) (cc)
       (rw (ap (λ (s : CoreState). s.disk) did.state) (unchanged_none before.state.disk)) refl of
       (λ world past runs. rw did.same (its_known (from does_is) runs)) leaves
 
   -- It ends without a device: that one is not to be had,
-  pub device_refused : (given : Answer) → under.work ≡ work.Attach (Reads ring)
+  pub device_refused : (ring : RingRead) (given : Answer) → under.work ≡ work.Attach (Reads ring)
       → StopsAttach before.state after.state → IsDeviceRefused before.state ring after.state given
       → LeavesGoing actor call before after under (Done given) → ItComes takes
-  device_refused given does_is stops refused leaves =
+  device_refused ring given does_is stops refused leaves =
       let asked = (its_asked (from does_is)).0 in
       attach_stops (from does_is) goes refl given
       (attach_fits asked (refusal_answers given refusal) (device_tells before.state ring after.state given refused)
@@ -200,10 +200,10 @@ module _ {script : Script} {actor : ℕ} {before after : TurnState} {clients new
       refusal = search device_refusal
 
   -- or its commit is not begun, as that of a sync.
-  pub commit_refused : (given : Answer) → under.work ≡ work.Attach (Checked ring)
+  pub commit_refused : (found : FreeDevice) (given : Answer) → under.work ≡ work.Attach (Checked found)
       → StopsAttach before.state after.state → IsSyncRefused before.state.core given
       → LeavesGoing actor call before after under (Done given) → ItComes takes
-  commit_refused given does_is stops refused leaves =
+  commit_refused found given does_is stops refused leaves =
       let asked = (its_asked (from does_is)).0 in
       attach_stops (from does_is) goes refl given
       (attach_fits asked (search sync_answers) (sync_tells before.state.core given refused)

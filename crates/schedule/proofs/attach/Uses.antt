@@ -28,8 +28,8 @@ module _ (before after : CoreState) (is : IsCore before.core) where
   pub attach_goes : (run next : AttachRun) → StepsAttach before run after (More next) → GoesOn old new
   attach_goes (Reads ring) (Reads next) goes = goes_nowhere goes.core
   attach_goes (Reads ring) (Checked next) goes = goes_nowhere goes.core
-  attach_goes (Checked ring) (Checked next) goes = goes_nowhere (cc)
-  attach_goes (Checked ring) (Joins join) goes = commit_goes goes.begins
+  attach_goes (Checked found) (Checked next) goes = goes_nowhere (cc)
+  attach_goes (Checked found) (Joins join) goes = commit_goes goes.begins
   attach_goes (Joins join) (Joins next) goes = core_goes goes.1
   attach_goes (Joins join) (Signs run None) goes = search (goes_still, arith)
   attach_goes (Joins join) (Signs run (Some because)) goes = core_goes goes.1
@@ -62,7 +62,7 @@ module _ (before after : CoreState) (is : IsCore before.core) where
   pub attach_ends : (run : AttachRun) (given : Answer) → IsAttachRunOf old run
       → StepsAttach before run after (Done given) → EndsAs old new given (made_by (work.Attach run)) None 0
   attach_ends (Reads ring) given of goes = ends_plainly (refused_plain ring given goes.1) (stops_goes goes.0)
-  attach_ends (Checked ring) given of goes = ends_plainly (sync_plain given goes.1) (stops_goes goes.0)
+  attach_ends (Checked found) given of goes = ends_plainly (sync_plain given goes.1) (stops_goes goes.0)
   attach_ends (Joins join) given of goes = ends_plainly (too_many_plain given goes.1) (stops_goes goes.0)
   attach_ends (Signs run because) given of goes = ⊎_elim
       (search (ends_plainly, too_many_plain, stops_goes, arith)) (attach_answered run because given of.0.of) goes

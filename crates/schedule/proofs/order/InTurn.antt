@@ -1,9 +1,9 @@
 -- Whose turn is next, and steps after steps.
 use Rattle.schedule.proofs.Words.{◌≡◌, ℕ, ◌+◌, ◌<◌, ◌≤◌, List, length, Option, Some, None, zero, suc, refl, arith, []}
 use Rattle.schedule.proofs.Words.{◌++◌, append_assoc, length-append, ◌∷◌, true, slice_get, le-ltb, ltb-true, ltb-false}
-use Rattle.schedule.proofs.Words.{slice_get_within, append-nil, Script, Client, Goes, HasGone, InRest, InRound, Replay}
+use Rattle.schedule.proofs.Words.{Bool, lt-ltb, slice_get_within, append-nil, Script, Client, Goes, HasGone, InRest, InRound, Replay}
 use Rattle.schedule.proofs.Words.{ReplaySteps, after_round, has_left_at, is_any_busy, is_busy_at, turn_at, HaveTaken}
-use Rattle.schedule.proofs.Words.{IsTurnOf, IsStepOf, AreIdle, TurnTaken, Turns, last_left}
+use Rattle.schedule.proofs.Words.{IsTurnOf, IsStepOf, AreIdle, TurnTaken, Turns, last_left, has_turn_at, calls_of}
 use Rattle.std.proofs.Common.{append-nil}
 use Rattle.std.specs.Prelude.{false}
 
@@ -99,6 +99,34 @@ pub begun_none_left : (clients : List Client) (actor number : ℕ)
     → ((client : Client) → slice_get clients actor ≡ Some client → number ≤ client.begun)
     → has_left_at clients actor number ≡ false
 begun_none_left clients actor number begun = grind (arith, le-ltb, begun)
+
+-- A client that has a call under way has a turn to take,
+pub busy_turn : (script : Script) (clients : List Client) (actor : ℕ) → is_busy_at clients actor ≡ true
+    → has_turn_at script clients actor ≡ true
+busy_turn script clients actor busy = cc
+
+-- and so has one that has a call left.
+pub left_turn : (script : Script) (clients : List Client) (actor : ℕ) {number : ℕ}
+    → has_left_at clients actor number ≡ true → number ≤ length (calls_of script actor)
+    → has_turn_at script clients actor ≡ true
+left_turn script clients actor left few = by (is_busy_at clients actor) refl
+  where
+    low : has_left_at clients actor (length (calls_of script actor)) ≡ true
+    low = grind (arith, lt-ltb, ltb-true)
+
+    by : (busy : Bool) → is_busy_at clients actor ≡ busy → has_turn_at script clients actor ≡ true
+    by true is = cc
+    by false is = cc (low)
+
+-- One that has a turn to take is there, and has a call left where none is under way.
+pub turn_there : (script : Script) (clients : List Client) (actor : ℕ) → has_turn_at script clients actor ≡ true
+    → actor < length clients
+turn_there script clients actor has = grind (arith, slice_get_within)
+
+pub turn_left : (script : Script) (clients : List Client) (actor : ℕ) {client : Client}
+    → has_turn_at script clients actor ≡ true → slice_get clients actor ≡ Some client → client.under_way ≡ None
+    → client.begun < length (calls_of script actor)
+turn_left script clients actor has there idle = grind (arith, ltb-true)
 
 -- ---- rounds
 

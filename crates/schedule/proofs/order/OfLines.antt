@@ -8,8 +8,8 @@ use Rattle.schedule.proofs.Words.{Copies, Turn, More, Busy, Done, Core, CoreStat
 use Rattle.schedule.proofs.Words.{UnderWay, Work, answered_of, HaveTaken, IsTurnOf, FollowsLines, callers_in, TurnState}
 use Rattle.schedule.proofs.Words.{Turned, BeginsCall, BeginsWork, GoesOnBy, LeavesBegun, LeavesGoing, entry_for}
 use Rattle.schedule.proofs.Words.{group_by, group_for, listed_for, listed_of, listed_on, begun_at, made_by, made_in}
-use Rattle.schedule.proofs.Words.{Turns, TurnTaken, last_left, first_turns, ⊎_elim, get_or, blank_client}
-use Rattle.schedule.proofs.Words.{slice_get-get_or, cases_lt, Bool}
+use Rattle.schedule.proofs.Words.{Turns, TurnTaken, last_left, first_turns}
+use Rattle.schedule.proofs.Words.{Bool}
 use Rattle.std.proofs.lemmas.Option.{slice_get_past}
 use Rattle.core_state.specs.declared.answer.Kind.TheVariants as kind
 use Rattle.core_state.specs.declared.item.Group.{Group as GroupItem}
@@ -240,24 +240,20 @@ none_second (first ∷ second ∷ clients) none = cc
 
 one_alone : (script : Script) (actor : ℕ) (before after : Turns) → IsTurnOf script actor before after
     → AreAlone script before → AreAlone script after
-one_alone script actor before after turn alone = ⊎_elim
-    (λ low. taken (get_or before.clients actor blank_client) (omega (arith, low, none_second before.clients alone.few))
-    (slice_get-get_or before.clients actor blank_client low))
-    (λ past. rw (turn.none past) alone) (cases_lt actor (length before.clients))
-  where
-    taken : (client : Client) → actor ≡ 0 → slice_get before.clients actor ≡ Some client → AreAlone script after
-    taken client first there =
-        let its = turn.one client there in
-        let now = turn_alone (record { state = before.state; items = before.items; client = client })
-        (record { state = after.state; items = after.items; client = its.0 }) (alone.each client (cc))
-        (rw first at its.1) in
-        record {
-          few = its.2.others 1 (λ one. omega (arith, first, one)) ∙ alone.few;
-          answered = answered_of its.0.begun its.0.under_way;
-          follows = now.follows;
-          within = let few = now.few in grind arith;
-          each = λ other is. rw (let same : its.0 ≡ other = some_is (cc) in same) at now;
-        }
+one_alone script actor before after turn alone =
+    let few = none_second before.clients alone.few in
+    let within = slice_get_within before.clients actor turn.client turn.there in
+    let first : actor ≡ 0 = omega (arith, few, within) in
+    let now = turn_alone (record { state = before.state; items = before.items; client = turn.client })
+    (record { state = after.state; items = after.items; client = turn.now }) (alone.each turn.client (cc))
+    (rw first at turn.turned) in
+    record {
+      few = turn.changes.others 1 (λ one. omega (arith, first, one)) ∙ alone.few;
+      answered = answered_of turn.now.begun turn.now.under_way;
+      follows = now.follows;
+      within = let few = now.few in grind arith;
+      each = λ other is. rw (let same : turn.now ≡ other = some_is (sym turn.changes.there ∙ rw (← first) at is) in same) at now;
+    }
 
 all_alone : {script : Script} {start : Turns} (passed : List TurnTaken) → HaveTaken script start passed
     → AreAlone script start → AreAlone script (last_left start passed)

@@ -1,14 +1,14 @@
 -- Turns of a script, one after the other.
 use Rattle.schedule.proofs.Words.{◌≡◌, ℕ, ◌+◌, ◌<◌, ◌≤◌, List, [], ◌∷◌, length, drop, Some, None, refl, arith, ◌++◌}
-use Rattle.schedule.proofs.Words.{true, map, take, Result, Ok, Err, OnErr, drop_more, map-append, take_more, Disk}
+use Rattle.schedule.proofs.Words.{ap, true, Result, Ok, Err, OnErr, drop_more, Disk}
 use Rattle.schedule.proofs.Words.{Script, Journal, Core, Progress, most_turns, Turns, taken_by, Cursor, InOrder, InRest}
 use Rattle.schedule.proofs.Words.{InRound, IsCallOfScript, Replay, after_round, cursor_after, has_left_at, is_any_busy}
-use Rattle.schedule.proofs.Words.{is_busy_at, replay_at, replay_by, turn_at, turns_by, HaveHadTurns, HasPlayed}
+use Rattle.schedule.proofs.Words.{is_busy_at, replay_at, replay_by, turn_at, turns_by, has_turn_at, HasPlayed}
 use Rattle.schedule.proofs.Words.{HasRunOutOfTurns, IsReady, AreIdle, HasTurn, HaveBegun, lt-ltb, le-ltb}
 use Rattle.std.proofs.Common.{get_or}
 use Rattle.std.specs.Prelude.{false}
 use Rattle.schedule.proofs.run.Coming.{came_nowhere, came_on}
-use Rattle.schedule.proofs.order.InTurn.{gone_taken, begun_none_left, gone_more, gone_none, gone_then, idle_not_busy}
+use Rattle.schedule.proofs.order.InTurn.{begun_none_left, gone_more, gone_none, gone_then, idle_not_busy}
 use Rattle.schedule.proofs.order.InTurn.{past_not_busy, round_next}
 use Rattle.schedule.proofs.order.CallTaken.{given_own}
 
@@ -65,18 +65,6 @@ module _ {script : Script} {start : Replay} where
       → HasPlayed script start (replay_at turns taken to) room
   played_at same played = rw same at played
 
-  -- The client of a letter of the order had its turn.
-  pub played_letter : {before after : Turns} {taken counted room left actor : ℕ} (letters : List ℕ) (index other : ℕ)
-      → index < length letters → actor ≡ get_or letters index other
-      → HasPlayed script start (replay_at before taken (InOrder (drop index letters))) room
-      → HasTurn script actor before after → counted ≡ taken + 1 → IsReady script after left
-      → HasPlayed script start (replay_at after counted (InOrder (drop (index + 1) letters))) left
-  played_letter {before = before} {actor = actor} letters index other low is played turn one ready =
-      search (played_turn, played, next)
-    where
-      next : drop index letters ≡ actor ∷ drop (index + 1) letters
-      next = search (drop_more, arith)
-
   -- After a round, where another one began, it is over too.
   pub round_over : {middle now : Turns} {taken counted room left : ℕ}
       → HasPlayed script start (replay_at middle taken (after_round middle.clients)) room
@@ -103,6 +91,11 @@ module _ {script : Script} {start : Replay} where
   rest_goes {now = now} {given = given} {actor = actor} {number} one is idle begun played =
       search (idle_not_busy, begun_none_left, given_own, played_past, arith)
 
+-- The letter that is next in a list stands before the rest of it.
+next_letter : (index : ℕ) (letters : List ℕ) (other : ℕ) → index < length letters
+    → drop index letters ≡ get_or letters index other ∷ drop (index + 1) letters
+next_letter index letters other low = search (drop_more, arith)
+
 -- No more turns can be counted from the start on.
 pub stopped_same : {script : Script} {core : Core} {disk : Disk} (journal : Journal) (before after : Progress)
     (cursor : Cursor) {room : ℕ} → after.clients.items ≡ before.clients.items → after.turns ≡ before.turns
@@ -116,36 +109,25 @@ stopped_same {script} {core} {disk} journal before after cursor {room} clients t
       played = played_none (replay_by core disk journal before cursor) ready;
     })
 
--- The first clients of a list had their turns: those are all that were taken.
-pub record TakesListed (script : Script) (listed : List ℕ) (index : ℕ) (start now : Replay) (room : ℕ) : Type 0 where
-  pub played : HasPlayed script start now room
-  pub actors : map (λ turn. turn.actor) played.passed ≡ take index listed
+-- The next letter of a list was gone through,
+pub listed_more : {script : Script} {start : Replay} {before after : Turns} {taken counted room left : ℕ}
+    (index : ℕ) (letters : List ℕ) (other : ℕ) → index < length letters
+    → HasPlayed script start (replay_at before taken (InOrder (drop index letters))) room
+    → HasPlayed script (replay_at before taken (InOrder (get_or letters index other ∷ drop (index + 1) letters)))
+    (replay_at after counted (InOrder (drop (index + 1) letters))) left
+    → HasPlayed script start (replay_at after counted (InOrder (drop (index + 1) letters))) left
+listed_more index letters other low played letter =
+    played_then (played_at (ap InOrder (next_letter index letters other low)) played) letter
 
-pub listed_none : {script : Script} {room : ℕ} {listed : List ℕ} {now : Replay} → IsReady script now.turns room
-    → TakesListed script listed 0 now now room
-unfolding played_none
-listed_none {now = now} ready = record { played = played_none now ready; actors = refl }
-
-module _ {script : Script} {listed : List ℕ} {index : ℕ} {start : Replay} where
-  pub listed_more : {before after : Turns} {taken counted room left : ℕ} (other : ℕ) → index < length listed
-      → TakesListed script listed index start (replay_at before taken (InOrder (drop index listed))) room
-      → HasTurn script (get_or listed index other) before after → counted ≡ taken + 1 → IsReady script after left
-      → TakesListed script listed (index + 1) start (replay_at after counted (InOrder (drop (index + 1) listed))) left
-  unfolding played_letter played_turn
-  listed_more {after = after} other low so_far turn one ready = record {
-    played = played_letter listed index other low refl so_far.played turn one ready;
-    actors = search (map-append, take_more, arith);
-  }
-
-  pub have_had_turns : {room : ℕ} {now : Replay} → take index listed ≡ listed
-      → TakesListed script listed index start now room → HaveHadTurns script start.turns listed now.turns room
-  have_had_turns all takes = record {
-    passed = takes.played.passed;
-    actors_are = cc;
-    taken = (gone_taken takes.played.gone).0;
-    come = takes.played.come;
-    ready = takes.played.ready;
-  }
+-- or no more turns could be counted there.
+pub stopped_listed : {script : Script} {start : Replay} {before turns : Turns} {taken counted room left : ℕ}
+    (index : ℕ) (letters : List ℕ) (other : ℕ) → index < length letters
+    → HasPlayed script start (replay_at before taken (InOrder (drop index letters))) room
+    → HasRunOutOfTurns script (replay_at before taken (InOrder (get_or letters index other ∷ drop (index + 1) letters)))
+    turns counted left
+    → HasRunOutOfTurns script start turns counted left
+stopped_listed index letters other low played stopped =
+    stopped_then (played_at (ap InOrder (next_letter index letters other low)) played) stopped
 
 module _ {script : Script} {taken : ℕ} where
   -- A client had its turn in a round,
@@ -162,6 +144,21 @@ module _ {script : Script} {taken : ℕ} where
       → HasPlayed script (replay_at now taken (InRound actor)) (replay_at now taken (InRound (actor + 1))) room
   passed_in_round {now} {actor = actor} ready low free =
       played_past (played_none (replay_at now taken (InRound actor)) ready) (cc) (search lt-ltb)
+
+  -- The client of a letter of the order had its turn,
+  pub played_letter : {before after : Turns} {counted room left actor : ℕ} (letters : List ℕ) → IsReady script before room
+      → has_turn_at script before.clients actor ≡ true → HasTurn script actor before after → counted ≡ taken + 1
+      → IsReady script after left
+      → HasPlayed script (replay_at before taken (InOrder (actor ∷ letters))) (replay_at after counted (InOrder letters)) left
+  played_letter {before} {actor = actor} letters was left turn one ready = played_turn (InOrder letters)
+      (played_none (replay_at before taken (InOrder (actor ∷ letters))) was) (cc) refl turn one ready
+
+  -- or had none.
+  pub passed_letter : {now : Turns} {room actor : ℕ} (letters : List ℕ) → IsReady script now room
+      → has_turn_at script now.clients actor ≡ false
+      → HasPlayed script (replay_at now taken (InOrder (actor ∷ letters))) (replay_at now taken (InOrder letters)) room
+  passed_letter {now} {actor = actor} letters ready none =
+      played_past (played_none (replay_at now taken (InOrder (actor ∷ letters))) ready) (cc) refl
 
   -- The order is over.
   pub order_over : {now : Turns} {room : ℕ} → IsReady script now room

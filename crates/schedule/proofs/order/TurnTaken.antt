@@ -4,13 +4,12 @@ use Rattle.schedule.proofs.Words.{◌∙◌, ap, arith, slice_index_or, slice_se
 use Rattle.schedule.proofs.Words.{All-filter, All-map, get_or_from_slice_get, slice_get-get_or, slice_get_within}
 use Rattle.schedule.proofs.Words.{Lawful, ScriptCall, Placed, Script, IsAllowed, calls_of, Core, IsCore, Rests, Copies}
 use Rattle.schedule.proofs.Words.{Commits, HoldingCall, Copying, Putting, Reading, range_listed, Client, UnderWay, Work}
-use Rattle.schedule.proofs.Words.{Changes, Comes, TakesTurn, IsSchedule, Turns, turns_of, AreCopiers, AreSharers}
+use Rattle.schedule.proofs.Words.{Changes, Comes, TakesTurn, IsSchedule, turns_of, AreCopiers, AreSharers}
 use Rattle.schedule.proofs.Words.{HasRoomForAnswers, IsReady, calls_by, taken_of, AreIdle, HasTurn, TakesOne, AreGoing}
 use Rattle.schedule.proofs.Words.{IsGoing, IsWorkFor, IsWorkOf, calls_under_way, commit_in, held_by, HasDeviceUnder}
 use Rattle.schedule.proofs.Words.{MayGoOn, TurnState, Turned, first_listed, slice_get_read, length-set}
 use Rattle.schedule.specs.declared.client.Work.TheVariants as work
 use Rattle.std.proofs.lemmas.List.{get_or-set_same}
-use Rattle.schedule.proofs.run.Coming.{came_nowhere}
 use Rattle.schedule.proofs.attach.Dropped.{turn_drops}
 use Rattle.schedule.proofs.turn.Holders.{copiers_after, none_copies, none_shares, sharers_after}
 use Rattle.schedule.proofs.run.Rooms.{taken_few}
@@ -139,12 +138,11 @@ module _ {script : Script} {actor : ℕ} {before after : TurnState} (clients : L
   turn_taken = record {
     come = comes.come;
     is = record {
-      none = search (slice_get_within, arith);
-      one = λ client is. (
-        after.client,
-        rw (← some_is (sym takes.was ∙ is)) turned,
-        takes.changes,
-      );
+      client = before.client;
+      there = takes.was;
+      now = after.client;
+      turned = turned;
+      changes = takes.changes;
     };
     others = takes.changes.others;
     takes = search (takes_one, arith);
@@ -164,8 +162,3 @@ module _ {script : Script} {actor : ℕ} {before after : TurnState} (clients : L
     counted = cc;
     enough = enough;
   }
-
--- There is no such client, and nothing was done.
-pub turn_none : {script : Script} {actor : ℕ} {turns : Turns} → length turns.clients ≤ actor
-    → HasTurn script actor turns turns
-turn_none past = search (came_nowhere, slice_get_within, arith)

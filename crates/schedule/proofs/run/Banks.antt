@@ -1,15 +1,13 @@
 -- The banks with which a run's items were listed: those that its turns left.
-use Rattle.schedule.proofs.Words.{◌≡◌, ⊎_elim, ℕ, ◌<◌, ◌≤◌, List, [], ◌∷◌, length, ◌∙◌, refl, arith, length-append}
-use Rattle.schedule.proofs.Words.{get_or, cases_lt, le-ltb, lt-ltb, slice_get-get_or, Disk, Script, HaveTaken, IsTurnOf}
-use Rattle.schedule.proofs.Words.{blank_client, Turns, TurnTaken, AreListedWith, bank_when, last_left}
+use Rattle.schedule.proofs.Words.{◌≡◌, sym, ℕ, ◌<◌, ◌≤◌, List, [], ◌∷◌, length, ◌∙◌, refl, arith, length-append}
+use Rattle.schedule.proofs.Words.{le-ltb, lt-ltb, Disk, Script, HaveTaken, IsTurnOf}
+use Rattle.schedule.proofs.Words.{Turns, TurnTaken, AreListedWith, bank_when, last_left}
 
 -- ---- a turn lists items at the end, or none
 
 turn_grows : {script : Script} {actor : ℕ} {before after : Turns} → IsTurnOf script actor before after
     → length before.items ≤ length after.items
-turn_grows {actor = actor} {before = before} is = ⊎_elim
-    (λ low. let its = is.one (get_or before.clients actor blank_client) (search slice_get-get_or) in
-    grind (arith, length-append)) (search arith) (cases_lt actor (length before.clients))
+turn_grows is = let turned = is.turned in grind (arith, length-append)
 
 ends_grown : (script : Script) (start : Turns) (passed : List TurnTaken) → HaveTaken script start passed
     → length start.items ≤ length (last_left start passed).items
@@ -44,7 +42,8 @@ pub are_listed : (script : Script) (start : Turns) (passed : List TurnTaken) →
 are_listed script start [] taken = tt
 are_listed script start (turn ∷ later) taken = (
   search (past_start, at_start),
-  agree script turn.left later taken.1 (search (past_start, turn_grows, arith))
+  agree script turn.left later taken.1
+      (λ count past. sym (past_start start turn later count (omega (arith, past, turn_grows taken.0))))
       (are_listed script turn.left later taken.1),
 )
 

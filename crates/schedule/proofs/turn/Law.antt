@@ -4,10 +4,9 @@ use Rattle.schedule.proofs.Words.{cases_lt, get_or_past, AreBytes, Answer, Kind,
 use Rattle.schedule.proofs.Words.{calls_of, Turn, More, Busy, Done, Reads, Checked, Joins, Signs, Rests, Copies}
 use Rattle.schedule.proofs.Words.{Commits, GetRun, IsCore, IsReadKind, BeginsGet, Client, UnderWay, Work, TakesTurn}
 use Rattle.schedule.proofs.Words.{Comes, TurnState, BeginsWork, Waits, AnswersAtOnce, BeginsCall, GoesOnBy, LeavesBegun}
-use Rattle.schedule.proofs.Words.{LeavesGoing, HasTableOf, Turned, WorkGoesOn, Nothing, Began, Went}
+use Rattle.schedule.proofs.Words.{LeavesGoing, HasTableOf, Turned, WorkGoesOn, Began, Went}
 use Rattle.core_state.specs.declared.answer.Kind.TheVariants as kind
 use Rattle.schedule.specs.declared.client.Work.TheVariants as work
-use Rattle.schedule.proofs.turn.Comes.{comes_nowhere}
 use Rattle.schedule.proofs.attach.Comes.{attach_at_once, attach_begins, attach_waits}
 use Rattle.schedule.proofs.attach.Commits.{join_drops, join_goes, signs_on}
 use Rattle.schedule.proofs.attach.Cut.{attach_cut}
@@ -107,11 +106,11 @@ module _ {script : Script} {actor : ℕ} {before after : TurnState} {clients new
     went_by (work.Sync run) (More (work.Sync next)) does_is goes did leaves = search (commit_goes_further, sync_makes)
     went_by (work.Sync run) (Done given) does_is goes did leaves = search (sync_ends, sync_makes)
     went_by (work.Attach (Reads ring)) (More (work.Attach (Reads next))) does_is goes did leaves = search reads_next
-    went_by (work.Attach (Reads ring)) (More (work.Attach (Checked next))) does_is goes did leaves = search finds_free
+    went_by (work.Attach (Reads ring)) (More (work.Attach (Checked found))) does_is goes did leaves = search finds_free
     went_by (work.Attach (Reads ring)) (Done given) does_is goes did leaves = search device_refused
-    went_by (work.Attach (Checked ring)) (More (work.Attach (Checked next))) does_is goes did leaves = search waits_on
-    went_by (work.Attach (Checked ring)) (More (work.Attach (Joins join))) does_is goes did leaves = search attach_joins
-    went_by (work.Attach (Checked ring)) (Done given) does_is goes did leaves = search commit_refused
+    went_by (work.Attach (Checked found)) (More (work.Attach (Checked next))) does_is goes did leaves = search waits_on
+    went_by (work.Attach (Checked found)) (More (work.Attach (Joins join))) does_is goes did leaves = search attach_joins
+    went_by (work.Attach (Checked found)) (Done given) does_is goes did leaves = search commit_refused
     went_by (work.Attach (Joins join)) (More (work.Attach (Joins next))) does_is goes did leaves = search join_goes
     went_by (work.Attach (Joins join)) (More (work.Attach (Signs made None))) does_is goes did leaves =
         search join_joins
@@ -155,6 +154,5 @@ module _ {script : Script} {actor : ℕ} {before after : TurnState} {clients new
   pub turned_comes : ((number : ℕ) (call : ScriptCall) → slice_get (calls_of script actor) number ≡ Some call
       → IsAllowed call)
       → Turned (calls_of script actor) actor before after → Comes script actor before after clients news
-  turned_comes allowed (Nothing nothing) = comes_nowhere takes nothing.same
   turned_comes allowed (Began turn begins leaves) = search (began_by, arith)
   turned_comes allowed (Went under turn goes leaves) = search (went_by, arith)

@@ -2,7 +2,7 @@
 -- group and of who holds sectors; and what it lists.
 use Rattle.schedule.proofs.Words.{Answer, AnswersAtOnce, Began, Busy, CopyRun, Core, CoreState, Done, Entry, GoesOnBy}
 use Rattle.schedule.proofs.Words.{Group, HasNoFreeRun, IsCore, IsOpenSince, Item, Kind, List, MayGoOn, More, None}
-use Rattle.schedule.proofs.Words.{Nothing, Option, Run, ScriptCall, Some, TurnState, Turned, Uber, UnderWay, Went, Work}
+use Rattle.schedule.proofs.Words.{Option, Run, ScriptCall, Some, TurnState, Turned, Uber, UnderWay, Went, Work}
 use Rattle.schedule.proofs.Words.{[], arith, begun_at, commit_in, entry_for, fill_bytes, group_by, group_for, inl}
 use Rattle.schedule.proofs.Words.{length, length_put, listed_for, listed_on, made_by, made_in, sectors_taken}
 use Rattle.schedule.proofs.Words.{sharing_in, sharing_under, slice_get, ℕ, ◌++◌, ◌+◌, ◌-◌, ◌∷◌, ◌≡◌, ◌⊎◌}
@@ -14,7 +14,7 @@ use Rattle.schedule.proofs.attach.Uses.{attach_ends, attach_goes}
 use Rattle.schedule.proofs.copy.Uses.{copy_ends, copy_goes, round_plain}
 use Rattle.schedule.proofs.turn.UsingEnds.{EndsAs, EndsPlainly, ends_plainly, plain_ends, put_ends, read_ends}
 use Rattle.schedule.proofs.turn.UsingEnds.{sync_ends}
-use Rattle.schedule.proofs.turn.UsingTurns.{BeginsOn, FitsPut, GoesAs, GoesOn, answers_with, core_goes, goes_nowhere}
+use Rattle.schedule.proofs.turn.UsingTurns.{BeginsOn, FitsPut, GoesAs, GoesOn, answers_with, core_goes}
 use Rattle.schedule.proofs.turn.UsingTurns.{job_in, on_none, waits_with, works_begin}
 
 -- ---- what is listed
@@ -167,7 +167,6 @@ module _ {calls : List ScriptCall} {actor : ℕ} {before after : TurnState} (is 
 
   -- so with each turn.
   pub turn_leaves : Turned calls actor before after → TurnLeaves calls actor before after
-  turn_leaves (Nothing nothing) = leaves_idle (goes_nowhere (cc)) nothing.idle (cc) (cc)
   turn_leaves (Began (More does) begins leaves) = grind (arith, leaves_begun, works_begin)
   turn_leaves (Began (Busy by) begins leaves) = grind (arith, leaves_idle, waits_with)
   turn_leaves (Began (Done given) begins leaves) = leaves_begun begins.call None begins.idle begins.next

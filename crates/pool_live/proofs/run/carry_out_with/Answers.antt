@@ -54,6 +54,7 @@ returns-then-clients-le1 g c =
     done.result.journal.items c.if-attaches.false
     (λ widening. let is = c.expands.ensures.value.1 (subst Expands (sym c.reflow.ensures.value) widening) in
     let isnt = c.if-expands.false in cc)
+    (let few = c.if-clients-le1.true in omega (arith, few, c.clients.ensures))
     done.ensures.taken done.ensures.calls done.ensures.complete
 
 pub returns : goal.returns

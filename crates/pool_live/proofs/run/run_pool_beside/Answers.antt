@@ -43,7 +43,8 @@ returns-clause-run g c =
     first carried.ensures) in
     let ran : Ran = record { ended = ended; turns = turns; out = final.core.pool.out } in
     rw c.of.ensures (⊎_elim
-    (λ alone.
+    (λ is_alone.
+    let alone = is_alone.1 in
     let start = first_turns with.carried (at_disk (resting pool) mid) (first_item pool) in
     let has = has_run_in_turn alone.passed
     opened.later opened.only opened.silent opened.few opened.missed opened.renews opened.writes opened.out opened.begins

@@ -1,4 +1,4 @@
-use Rattle.schedule.proofs.Words.{length, refl, arith, slice_get_read, slice_get_within}
+use Rattle.schedule.proofs.Words.{length, refl, arith, slice_get_read}
 use Rattle.schedule.proofs.run.Rooms.{answered_uses, begun_uses}
 use Rattle.schedule.proofs.turn.TurnStates.{begun_more, begun_busy, begun_done}
 use Rattle.schedule.proofs.taking.begin_next.Goals as goal
@@ -7,31 +7,27 @@ pub returns-in-More-clause-turned : goal.returns-in-More-clause-turned
 returns-in-More-clause-turned g c =
     begun_more c.args.actor c.args.core.now c.begin_call.new.core
     (g.B.Bank.disk c.args.bank.now) c.args.journal.now.items c.args.client.now c.requires.idle
-    (slice_get_read c.args.calls.now (length c.args.calls.now) c.args.client.now.begun c.in-Some.call.now refl
-    c.in-Some.ensures.lookup.3.0 c.in-Some.ensures.lookup.1) c.in-More.ensures.begins c.in-More.ensures.table
+    (slice_get_read c.args.calls.now (length c.args.calls.now) c.args.client.now.begun c.index-calls-client.result refl
+    c.requires.left c.index-calls-client.is) c.in-More.ensures.begins c.in-More.ensures.table
     c.len-at.ensures
 
 pub returns-in-Busy-clause-turned : goal.returns-in-Busy-clause-turned
 returns-in-Busy-clause-turned g c =
     begun_busy c.args.actor c.args.core.now c.begin_call.new.core
     (g.B.Bank.disk c.args.bank.now) c.args.journal.now.items c.args.client.now c.requires.idle
-    (slice_get_read c.args.calls.now (length c.args.calls.now) c.args.client.now.begun c.in-Some.call.now refl
-    c.in-Some.ensures.lookup.3.0 c.in-Some.ensures.lookup.1) c.in-Busy.by c.in-Busy.ensures.begins
+    (slice_get_read c.args.calls.now (length c.args.calls.now) c.args.client.now.begun c.index-calls-client.result refl
+    c.requires.left c.index-calls-client.is) c.in-Busy.by c.in-Busy.ensures.begins
 
 pub returns-in-Done-clause-turned : goal.returns-in-Done-clause-turned
 returns-in-Done-clause-turned g c =
     begun_done c.args.actor c.args.core.now c.begin_call.new.core
     (g.B.Bank.disk c.args.bank.now) c.args.journal.now.items c.args.client.now c.requires.idle
-    (slice_get_read c.args.calls.now (length c.args.calls.now) c.args.client.now.begun c.in-Some.call.now refl
-    c.in-Some.ensures.lookup.3.0 c.in-Some.ensures.lookup.1) c.in-Done.ensures.begins c.len-at.ensures
+    (slice_get_read c.args.calls.now (length c.args.calls.now) c.args.client.now.begun c.index-calls-client.result refl
+    c.requires.left c.index-calls-client.is) c.in-Done.ensures.begins c.len-at.ensures
     c.entry_for.ensures c.list.ensures.items
 
 pub list-requires : goal.list-requires
-list-requires g c =
-    let low = slice_get_within c.args.calls.now c.args.client.now.begun c.in-Some.call.now
-    (slice_get_read c.args.calls.now (length c.args.calls.now) c.args.client.now.begun c.in-Some.call.now refl
-    c.in-Some.ensures.lookup.3.0 c.in-Some.ensures.lookup.1) in
-    let room = c.requires.room low in omega (arith, room)
+list-requires g c = let room = c.requires.room in omega (arith, room)
 
 pub returns-in-More-clause-room : goal.returns-in-More-clause-room
 returns-in-More-clause-room g c = begun_uses c.args.journal.now.room c.args.client.now

@@ -43,7 +43,7 @@ go_further-given-requires-clause-there g c = rw c.in-Some.is at c.requires.there
 
 pub begin_next-requires-clause-room : goal.begin_next-requires-clause-room
 begin_next-requires-clause-room g c = room_to_begin (length c.args.calls.now) c.args.journal.now.room c.args.client.now
-    c.in-None.is c.requires.room
+    c.in-None.is c.requires.room (c.requires.left c.in-None.is)
 
 pub list_made-requires : goal.list_made-requires
 list_made-requires g c =
