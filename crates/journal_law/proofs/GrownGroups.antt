@@ -179,7 +179,7 @@ group_of_grown handed opening items group kept more within is = record {
 }
 
 -- Behind the first item of a journal there is always a group before.
-group_before : (items : List Item) (first : GroupItem) → GroupAt items 0 first → (index : ℕ)
+pub group_before : (items : List Item) (first : GroupItem) → GroupAt items 0 first → (index : ℕ)
     → 0 < index
     → (group : GroupItem) × IsGroupBefore items index group
 group_before items first there zero after = absurd (omega (arith, after))

@@ -1,6 +1,7 @@
 pub mod Grown
 pub mod GrownAnswers
 pub mod GrownGroups
+pub mod Widths
 pub mod GrownRun
 pub mod Moments
 pub mod Rows

@@ -14,6 +14,7 @@ pub mod RunRefused
 pub mod RunAnswers
 pub mod Carrying
 pub mod RunCarried
+pub mod Widened
 pub mod RunEnding
 pub mod StatusEnding
 pub mod Ending

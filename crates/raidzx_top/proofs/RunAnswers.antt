@@ -92,7 +92,7 @@ previous_after items caller index earlier item at = by item at
         one entry there = cc
 
 -- Each call has one before it of the same caller, or none.
-previous_there : (items : List Item) (caller index : ℕ) → (previous : ℕ) × IsPrevious items caller index previous
+pub previous_there : (items : List Item) (caller index : ℕ) → (previous : ℕ) × IsPrevious items caller index previous
 previous_there items caller zero =
     (0, record { there = inl refl; latest = λ k entry above below there. absurd (omega (arith, above, below)) })
 previous_there items caller (suc index) =

@@ -1,5 +1,5 @@
 -- What a run or a replay promises that opened its pool.
-use Rattle.std.proofs.Common.{◌≡◌, ◌≢◌, ◌⊎◌, inl, inr, ⊎_elim, ℕ, ◌≤◌, List, [], Some, true, refl, sym, ◌∙◌, ap, subst}
+use Rattle.std.proofs.Common.{◌≡◌, ◌≢◌, ◌⊎◌, inl, inr, ⊎_elim, ℕ, ◌≤◌, List, [], Some, true, refl, sym, ◌∙◌, subst}
 use Rattle.std.proofs.Common.{arith}
 use Rattle.std.specs.Prelude.{All, slice_get}
 use Rattle.bank_trait.specs.Causes.{FaultCounted}
@@ -12,6 +12,7 @@ use Rattle.core_state.specs.declared.item.Item.{Item}
 use Rattle.core_state.specs.declared.item.Item.TheVariants.{Group}
 use Rattle.core_state.specs.Choosing.{IsChosen, IsNotPool, IsOutAtOpening}
 use Rattle.core_state.specs.declared.answer.Kind.{Kind}
+use Rattle.core_state.specs.declared.answer.Kind.TheVariants as kind
 use Rattle.core_state.specs.Legal.{CallAt, IsAnswerOf}
 use Rattle.core_state.proofs.Knowing.{present}
 use Rattle.core_open.specs.Causes.{IsShownChoice, AreTooMany}
@@ -34,7 +35,7 @@ use Rattle.raidzx_top.specs.declared.order.Order.{Order}
 use Rattle.raidzx_top.specs.Bearing.{setting_with}
 use Rattle.raidzx_top.specs.Call.{TopCall}
 use Rattle.raidzx_top.specs.Causes.{IsCause, FindsNoPool, MeetsLimit, most_turns}
-use Rattle.raidzx_top.specs.Promises.{RunPromises, RunsUnhindered, IsSmoothAnswer, CompletesAll}
+use Rattle.raidzx_top.specs.Promises.{RunPromises, RunsUnhindered, IsDone, IsSmoothAnswer, CompletesAll, WidensWholly}
 use Rattle.raidzx_top.specs.Running.{IsStatusOf, HasMet, StoppedFor, after_fault, EndsTelling, WasCarriedOut}
 use Rattle.raidzx_top.specs.RunText.{IsLineFor, TextIsRight}
 use Rattle.raidzx_top.proofs.Carrying.{carried_actors_in, carried_allowed}
@@ -42,6 +43,7 @@ use Rattle.raidzx_top.proofs.Bearing.{may_bear}
 use Rattle.raidzx_top.proofs.Reopening.{survives_stops}
 use Rattle.raidzx_top.proofs.RunParts.{IsRunEnd, command_in, opens, held_at_entry, none_silent}
 use Rattle.raidzx_top.proofs.RunAnswers.{IsClients, answers_client}
+use Rattle.raidzx_top.proofs.Widened.{carried_with, copied_behind, copy_done}
 
 -- The line of a run's status, and the status itself.
 record IsEnd (line given : Status) : Type 0 where
@@ -303,10 +305,50 @@ module _ (order : Order) (call : TopCall) (lawful : Lawful call.old)
         (run.answers.fits index entry there).device)
     is_smooth index entry there other is = tt
 
+    -- Where the status is Done, nothing was exhausted.
+    none_exhausted : call.status ≡ status.Done
+        → (HasMet was.ran call.journal trouble.NoMemory → ⊥) × (HasMet was.ran call.journal trouble.Limit → ⊥)
+    none_exhausted done = by was.line was.line_is was.told
+      where
+        by : (line : Status) → IsStatusOf was.ran call.journal line
+            → EndsTelling call.sink call.sink_after call.journal line call.status
+            → (HasMet was.ran call.journal trouble.NoMemory → ⊥) × (HasMet was.ran call.journal trouble.Limit → ⊥)
+        by status.NoMemory is told =
+            let clash : status.NoMemory ≡ status.Done = ⊎_elim (λ t. sym t.0 ∙ done) (λ t. sym t.0 ∙ done) told in cc
+        by status.Limit is told =
+            let clash : status.Limit ≡ status.Done = ⊎_elim (λ t. sym t.0 ∙ done) (λ t. sym t.0 ∙ done) told in cc
+        by (status.TooManyFailed listed) is told = (is.1, is.2)
+        by status.Done is told = (is.0, is.1)
+        by line is told = absurd is
+
+    widens : call.status ≡ status.Done → WidensWholly order call.journal
+    widens done = record {
+      copies = λ index entry there copies. each_done index entry there copies;
+      attached = λ is index to group attach there own answered. copied_behind
+          was.script (carried_with was.script was.done.calls.carried was.done.calls.run.opened
+          (rw is at was.done.calls.carried_is)) was.read.clients was.read.actors was.done.calls.run.answers.calls
+          (was.done.complete (λ stopped. none.0 (inl stopped)) (λ stopped. none.1 (inl stopped))) index attach there own
+          (answers index attach there (answer.Attached to group) answered) each_done;
+    }
+      where
+        none : (HasMet was.ran call.journal trouble.NoMemory → ⊥) × (HasMet was.ran call.journal trouble.Limit → ⊥)
+        none = none_exhausted done
+
+        each_done : (index : ℕ) (entry : Entry) → CallAt call.journal index entry → entry.kind ≡ kind.Copy
+            → IsDone call.journal index entry.answer
+        each_done = copy_done keeps.journal.legal (record {
+          fits = λ index entry there. answers index entry there entry.answer refl;
+          smooth = λ index entry there. is_smooth index entry there entry.answer refl;
+        }) (record {
+          memory = λ index entry there is. none.0 (inr (index, entry, there, is));
+          limit = λ index reached entry there is. none.1 (inr (index, entry, there, (reached, is)));
+        })
+
     completes : CompletesAll order call
     completes = record {
       status_is = by was.line was.line_is was.told;
       answers = λ index entry there. is_smooth index entry there entry.answer refl;
+      widens = widens;
     }
       where
         by : (line : Status) → IsStatusOf was.ran call.journal line

@@ -238,6 +238,7 @@ refused_run order call was =
         status_is = inr (inl (mine.smooth smooth));
         answers = λ index entry there. absurd (no_call index entry
             (subst (λ (items : List Item). CallAt items index entry) was.none there));
+        widens = λ done. let clash : status.NoMemory ≡ status.Done = sym (mine.smooth smooth) ∙ done in cc;
       };
     }
   where

@@ -1,6 +1,6 @@
 -- What a call promises: what a new pool is, what a run or a replay answers and keeps at each moment and in the
 -- end, what a `status` tells (`StatusCall.antt`), and what is written.
-use Rattle.std.specs.Prelude.{◌≡◌, ◌≢◌, ◌⊎◌, ℕ, ◌≤◌, List, [], ◌∷◌, ◌++◌, Some, Bool, ⊤, length}
+use Rattle.std.specs.Prelude.{◌≡◌, ◌≢◌, ◌⊎◌, ℕ, ◌<◌, ◌≤◌, List, [], ◌∷◌, ◌++◌, Some, Bool, true, ⊤}
 use Rattle.bank_trait.specs.Causes.{FaultCounted}
 use Rattle.bank_trait.specs.Disk.{Image, Unchanged}
 use Rattle.bank_trait.specs.Regions.{Tells, TouchesOnly}
@@ -9,7 +9,9 @@ use Rattle.uberblock_ring.specs.Devices.{count_below, IsWithin}
 use Rattle.uberblock_ring.specs.Uberblock.{Uber, first_uber}
 use Rattle.core_state.specs.declared.answer.Answer.{Answer}
 use Rattle.core_state.specs.declared.answer.Answer.TheVariants as answer
+use Rattle.core_state.specs.declared.answer.Kind.TheVariants as kind
 use Rattle.core_state.specs.declared.item.Entry.{Entry}
+use Rattle.core_state.specs.declared.item.Item.{Item}
 use Rattle.core_state.specs.Legal.{CallAt}
 use Rattle.core_state.specs.Journal.{IsComplete}
 use Rattle.core_state.specs.Keeps.{Kept, Setting}
@@ -19,6 +21,7 @@ use Rattle.core_state.specs.Create.{IsCreated, first_kept, rows_for}
 use Rattle.core_open.specs.Causes.{AreTooMany}
 use Rattle.core_open.specs.Opens.{IsUnhindered, IsWithinBelow, LeavesOthers}
 use Rattle.core_open.specs.Opening.{CutsOpening, MayBegin}
+use Rattle.client_script.specs.Copier.{copier}
 use Rattle.client_script.specs.Script.{Script, IsScript, asked_by}
 use Rattle.client_script.specs.Texts.{journal_text}
 use Rattle.schedule.specs.OfLines.{FollowsLines}
@@ -199,13 +202,38 @@ IsSmoothAnswer (answer.Paused device) = ⊥
 IsSmoothAnswer (answer.TooManyFailed out) = ⊥
 IsSmoothAnswer other = ⊤
 
--- Then the status is Done and each answer is smooth; or there was no memory, or a group met the greatest
--- number, or the turns were used up.
+-- A copy is done: the pool has this width, which is no less than any to which it was widened before.
+pub record IsDone (items : List Item) (index : ℕ) (given : Answer) : Type 0 where
+  pub width : ℕ
+  pub given_is : given ≡ answer.Completed width
+  pub wide : (earlier to group : ℕ) (attach : Entry) → earlier < index → CallAt items earlier attach
+      → attach.answer ≡ answer.Attached to group → to ≤ width
+
+-- Behind this answer stands the one of a copy of the same client, which is done.
+pub record IsCopiedBehind (items : List Item) (index : ℕ) (attach : Entry) : Type 0 where
+  pub later : ℕ
+  pub copy : Entry
+  pub there : CallAt items later copy
+  pub behind : index < later
+  pub own : copy.caller ≡ attach.caller
+  pub done : IsDone items later copy.answer
+
+-- An expansion that has begun comes to its end: each copy that was asked for is done, and where a device was to be
+-- attached, and was, the copy behind that is.
+pub record WidensWholly (order : Order) (items : List Item) : Type 0 where
+  pub copies : (index : ℕ) (entry : Entry) → CallAt items index entry → entry.kind ≡ kind.Copy
+      → IsDone items index entry.answer
+  pub attached : order ≡ AsTheyCome true → (index to group : ℕ) (attach : Entry) → CallAt items index attach
+      → attach.caller ≡ copier → attach.answer ≡ answer.Attached to group → IsCopiedBehind items index attach
+
+-- Then the status is Done, each answer is smooth, and an expansion comes to its end; or there was no memory, or a group
+-- met the greatest number, or the turns were used up.
 pub record CompletesAll (order : Order) (call : TopCall) : Type 0 where
   pub status_is : (call.status ≡ status.Done) ⊎ ((call.status ≡ status.NoMemory)
       ⊎ ((call.status ≡ status.Limit) × MeetsLimit call (command_of (served_by order))))
   pub answers : (index : ℕ) (entry : Entry) → CallAt call.journal index entry
       → IsSmoothAnswer entry.answer
+  pub widens : call.status ≡ status.Done → WidensWholly order call.journal
 
 -- A `create` that has nothing in its way is carried out.
 pub record CreateCompletes (call : TopCall) : Type 0 where
