@@ -31,9 +31,9 @@ not_attached() {
 }
 
 # What is told of an attach that brought no image.
-expanding='raidzx: no image was attached, as the copy to 4 images is not done: copy, then attach'
+expanding='raidzx: no disk was attached, as the copy onto 4 disks is not done: copy, then attach'
 new_failed="raidzx: disk3: not attached: a call on it failed, or it is shorter than the pool's; no image of the pool is out for it"
-is_out() { echo "raidzx: no image was attached, as image $1 is out: a pool grows while all its disks are in use"; }
+is_out() { echo "raidzx: no disk was attached, as disk $1 is out: a pool grows while all its disks are in use"; }
 behind() {
   echo "raidzx: disk$1: its last group is $2, the pool's is $3: it missed what was synced since, and is out for good"
 }
@@ -193,7 +193,7 @@ ${works/REFUSED/$answer}" 'puthex 1 61' attach 'puthex 2 62' sync 'get 2'
 
 old_and_one
 IMAGES=("${old[@]}")
-refused 'no device 3' 'raidzx: no image was attached: 3 are named and the pool has 3; name it behind them, up to 16'
+refused 'no device 3' 'raidzx: no disk was attached: 3 images are named and the pool has 3 disks; name one more behind them, up to 16'
 
 old_and_one
 rm disk1

@@ -93,7 +93,7 @@ for number in 0 1 2 3; do
 5 a.4 sync group 14
 6 a.5 sum 4 at 6 $first" copy attach 'put 4 1536 0' sync 'sum 4'
   tells 'it is told' "raidzx: disk$number: cannot be opened: $missing; its disk counts as failed" \
-    "raidzx: no image was attached, as image $number is out: a pool grows while all its disks are in use" \
+    "raidzx: no disk was attached, as disk $number is out: a pool grows while all its disks are in use" \
     "raidzx: disk$number: out of the pool for good"
   shows 4 '0:3 11:4' $number 4
 done
@@ -290,7 +290,7 @@ sed '/^sum 1 /d' full_wanted >wanted
 for number in 0 1 2 3; do
   back full
   rm disk$number
-  paused="raidzx: the copy is paused, as image $number is out; all blocks are read as before"
+  paused="raidzx: the copy is paused, as disk $number is out; all blocks are read as before"
   runs "a copy without disk$number" 0 "0 group 7 after 0
 1 a.1 copy paused $number
 2 a.2 attach expanding to 4
@@ -303,7 +303,7 @@ for number in 0 1 2 3; do
 9 a.7 get 1 at 9 bytes 01
 10 a.8 copy paused $number" copy attach 'free 1' sync 'put 1 1 1' sync 'get 1' copy
   tells 'it is told' "raidzx: disk$number: cannot be opened: $missing; its disk counts as failed" \
-    "$paused" 'raidzx: no image was attached, as the copy to 4 images is not done: copy, then attach' "$paused" \
+    "$paused" 'raidzx: no disk was attached, as the copy onto 4 disks is not done: copy, then attach' "$paused" \
     "raidzx: disk$number: out of the pool for good"
   shows '3 to 4 mark 0 state none' 0:3 $number 96
   cp full/disk$number .

@@ -95,7 +95,7 @@ replays() {
 }
 # While the fill has sectors 0 to 127, a block is put behind them, and synced. It lies there when all is copied.
 FROM=attached
-TOLD=('raidzx: no image was attached, as the copy to 4 images is not done: copy, then attach')
+TOLD=('raidzx: no disk was attached, as the copy onto 4 disks is not done: copy, then attach')
 replays 'a put and a sync beside the fill' "0 group 7 after 0
 1 b.1 put 1 ok
 2 group 8 after 2

@@ -68,7 +68,7 @@ lines_of() {
   echo "$((1 + $2)) a.1 copy $3"
 }
 # is_paused NUMBER: what is told of a copy that is paused.
-is_paused() { echo "raidzx: the copy is paused, as image $1 is out; all blocks are read as before"; }
+is_paused() { echo "raidzx: the copy is paused, as disk $1 is out; all blocks are read as before"; }
 # fails NUMBER FAULT COUNT: this image fails this call. The copy makes so many groups then and is paused, or all four and
 # is done. All blocks are there in that run, and in the next one, which has the same answer.
 fails() {

@@ -164,7 +164,7 @@ pool 1 3 256
 for ((number = 0; number < 66; number++)); do echo "a put $number 512 1"; done >puts
 { calls; cat puts; echo 'a put 7 65536 1'; echo 'a attach'; } >script
 "$RAIDZX" "${IMAGES[@]}" -- run <script >found 2>told || failed 'calls that are refused' "$(cat found)"
-tells 'calls that are refused' 'raidzx: no image was attached: 3 are named and the pool has 3; name it behind them, up to 16' \
+tells 'calls that are refused' 'raidzx: no disk was attached: 3 images are named and the pool has 3 disks; name one more behind them, up to 16' \
   'raidzx: puts without room: 1; the largest wanted 192 free sectors side by side: free blocks and sync, then put them again'
 { calls; cat puts; echo 'a sync'; echo 'a put 7 65536 1'; } >script
 "$RAIDZX" "${IMAGES[@]}" -- run <script >found 2>told || failed 'a put without room' "$(cat found)"

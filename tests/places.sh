@@ -116,7 +116,7 @@ tells 'the last one is lost too' "raidzx: none: $missing" 'raidzx: disk1: out of
   'raidzx: none: out of the pool for good'
 reads 10 disk0 disk1 disk2
 tells 'one that is out for good need not be named' "$(behind disk1 4 8)" 'raidzx: disk1: out of the pool for good' \
-  'raidzx: image 3, which is not named: out of the pool for good'
+  'raidzx: disk 3, for which no image is named: out of the pool for good'
 
 # An image that was attached is left out, as no block lies on it yet.
 pool_and 1
@@ -132,7 +132,7 @@ out 3
 blocks 1' disk0 disk1 disk2
 tells 'and tells how far the copy has come' 'raidzx: disk0: in use' 'raidzx: disk1: in use' 'raidzx: disk2: in use' \
   'raidzx: all blocks can be read, and no more disk may be lost' \
-  'raidzx: a copy moves the blocks onto 4 images: 0 of 192 sectors are moved, 0 percent' \
+  'raidzx: a copy moves the blocks onto 4 disks: 0 of 192 sectors are moved, 0 percent' \
   'raidzx: 2 of 192 sectors are used, by 1 of at most 512 blocks; the largest that fits has 64512 bytes' 'raidzx: blocks 7'
 COMMAND=replay runs 'it is named' 0 '0 group 6 after 0
 1 a.1 get 7 at 1 bytes 61' 'get 7'

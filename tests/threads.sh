@@ -54,7 +54,7 @@ beside() {
   [ "$(wc -l <wanted)" = "$(grep -c sum reads)" ] || failed "$name, replayed" "$(cat wanted)"
   back start
   "$RAIDZX" "${IMAGES[@]}" -- run "${OPTIONS[@]}" <script >found 2>told || failed "$name" "$(tail -n 3 found)"
-  ! grep -v '^raidzx: no image was attached' told || failed "$name" "$(cat told)"
+  ! grep -v '^raidzx: no disk was attached' told || failed "$name" "$(cat told)"
   legal found >why || failed "$name" "$(cat why)"
   for letter; do
     answered replayed "$letter" >wanted_of_one

@@ -88,7 +88,7 @@ pub fn tell_status<R: Eprint>(rt: &R, alloc: Global, names: &[String], survey: &
         }
         Pool::Likely(known) => {
             let _ = eprintln!(rt;
-                "raidzx: pool {} cannot be opened as these images stand: it bears that {} are wanting",
+                "raidzx: pool {} cannot be opened as these images stand: of its disks {} may be missing",
                 known.uber.pool(),
                 known.uber.parity()
             );
@@ -107,13 +107,13 @@ fn note_plain<R: Eprint>(rt: &R, name: &str, place: u32, known: &Known, standing
         Standing::Out => eprintln!(rt; "raidzx: {name}: out of the pool for good"),
         Standing::Unread => eprintln!(rt; "raidzx: {name}: cannot be read"),
         Standing::Foreign(sighting) if place >= known.disks() => eprintln!(rt;
-            "raidzx: {name}: none of the pool's {}; it shows image {} of pool {}",
+            "raidzx: {name}: none of the pool's {} disks; it shows image {} of pool {}",
             known.disks(),
             sighting.number,
             sighting.uber.pool()
         ),
         Standing::Blank if place >= known.disks() => eprintln!(rt;
-            "raidzx: {name}: none of the pool's {}; it shows no pool",
+            "raidzx: {name}: none of the pool's {} disks; it shows no pool",
             known.disks()
         ),
         _ => Ok(()),
@@ -137,7 +137,7 @@ fn note_copy<R: Eprint>(rt: &R, known: &Known) {
         let sectors = reflow.rows.saturating_mul(u64::from(reflow.from)).max(1);
         let percent = reflow.mark.saturating_mul(100) / sectors;
         let _ = eprintln!(rt;
-            "raidzx: a copy moves the blocks onto {} images: {} of {sectors} sectors are moved, {percent} percent",
+            "raidzx: a copy moves the blocks onto {} disks: {} of {sectors} sectors are moved, {percent} percent",
             reflow.to, reflow.mark
         );
     }

@@ -1,9 +1,9 @@
 // The page that is shown to who asks for help. The script `raidzx` at the top of the repository has the same one.
 
 const PAGE: [&str; 15] = [
-    "keeps blocks of bytes on several images, of which one to three may be lost (pools of format 1)",
+    "keeps blocks of bytes on several disks, of which one to three may be lost (pools of format 1)",
     "raidzx IMAGE.. -- create --parity P --width W --id N",
-    "    makes a pool on the first W images, of which P may be lost; what they held is lost",
+    "    makes a pool on the first W images; P of their disks may be lost; what they held is gone",
     "raidzx IMAGE.. -- run [--attach] <SCRIPT",
     "    carries out the calls of a script; with --attach the IMAGE behind the pool's joins it",
     "raidzx IMAGE.. -- replay <SCRIPT         the same, turn by turn",

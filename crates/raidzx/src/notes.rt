@@ -81,7 +81,7 @@ pub fn note_out<R: Eprint>(rt: &R, names: &[String], out: DeviceSet) {
             let _ = match names.get(device as usize) {
                 Some(name) => eprintln!(rt; "raidzx: {name}: out of the pool for good"),
                 None => eprintln!(rt;
-                    "raidzx: image {device}, which is not named: out of the pool for good"
+                    "raidzx: disk {device}, for which no image is named: out of the pool for good"
                 ),
             };
         }
@@ -90,7 +90,7 @@ pub fn note_out<R: Eprint>(rt: &R, names: &[String], out: DeviceSet) {
 
 /// That nothing is told of which images are out, for want of memory.
 pub fn note_unknown<R: Eprint>(rt: &R) {
-    let _ = eprintln!(rt; "raidzx: no memory to see which images are out of the pool for good");
+    let _ = eprintln!(rt; "raidzx: no memory to see which disks are out of the pool for good");
 }
 
 /// An image that a new pool of this width does not have, and the pool that stands there.

@@ -77,17 +77,18 @@ pub fn tell_undone<R: Eprint, B: Bank>(
     note_others(rt, &undone);
 }
 
-/// Why no image was attached, or no more is moved.
+/// Why no disk was attached, or no more is moved.
 fn note_widening<R: Eprint>(rt: &R, names: &[String], answer: &Answer) {
     let _ = match answer {
         Answer::Expanding { to } => eprintln!(rt;
-            "raidzx: no image was attached, as the copy to {to} images is not done: copy, then attach"
+            "raidzx: no disk was attached, as the copy onto {to} disks is not done: copy, then attach"
         ),
         Answer::DeviceOut { device } => eprintln!(rt;
-            "raidzx: no image was attached, as image {device} is out: a pool grows while all its disks are in use"
+            "raidzx: no disk was attached, as disk {device} is out: a pool grows while all its disks are in use"
         ),
         Answer::NoDevice { devices, width } => eprintln!(rt;
-            "raidzx: no image was attached: {devices} are named and the pool has {width}; name it behind them, up to 16"
+            "raidzx: no disk was attached: {devices} images are named and the pool has {width} disks; name one more \
+            behind them, up to 16"
         ),
         Answer::NewDeviceFailed { device } => match names.get(*device as usize) {
             Some(name) => eprintln!(rt;
@@ -97,7 +98,7 @@ fn note_widening<R: Eprint>(rt: &R, names: &[String], answer: &Answer) {
             None => Ok(()),
         },
         Answer::Paused { device } => eprintln!(rt;
-            "raidzx: the copy is paused, as image {device} is out; all blocks are read as before"
+            "raidzx: the copy is paused, as disk {device} is out; all blocks are read as before"
         ),
         _ => Ok(()),
     };
