@@ -6,7 +6,7 @@ use crate::door::{Survey, look_around};
 use crate::run_over;
 use crate::sightings::see;
 use crate::streams::Output;
-use raidzx_top::{Outcome, Status};
+use raidzx_top::{Outcome, ServedCommand, Status};
 use std::alloc::AllocError;
 use std::sync::Wait;
 use std::thread::Threads;
@@ -58,7 +58,7 @@ fn look_once<R: Threads + Wait + Sync>(
         inner: Vec::new(alloc),
         faults: 0,
     };
-    let mut outcome = run_over(rt, threads, command, bank, &mut text);
+    let mut outcome = run_over(rt, threads, command, ServedCommand::Status, bank, &mut text)?;
     let after = see(alloc, &mut outcome.bank)?;
     let is_quiet = after.is_same(&survey.sightings);
     Ok(Look {

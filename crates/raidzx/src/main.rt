@@ -20,6 +20,7 @@ mod opening;
 mod order;
 mod places;
 mod room;
+mod script;
 mod seen;
 mod sightings;
 mod standing;
@@ -41,13 +42,14 @@ use raidzx_top::{
     Outcome, ServedCommand, Status, TOO_MANY_FAILED, image_words, raidzx, read_command,
     write_status,
 };
-use std::alloc::{AllocFailed, Global};
+use script::ScriptBytes;
+use std::alloc::{AllocError, AllocFailed, Global};
 use std::env;
 use std::io::{self, ErrorKind, Printer, Write};
 use std::process::ExitCode;
 use std::sync::Wait;
 use std::thread::Threads;
-use streams::{Input, Output, hold_standard_streams};
+use streams::{Output, hold_standard_streams};
 use usage::hint_usage;
 
 /// Why there is no bank over files.
@@ -117,18 +119,27 @@ fn open_files(
     })
 }
 
-/// Carries out the command over a bank, with threads of this handle, and tells why a script is refused.
+/// The script of a command. One that takes none reads nothing of standard input.
+fn script_for(rt: &HostRuntime, served: ServedCommand) -> Result<ScriptBytes, AllocError> {
+    match served {
+        ServedCommand::Run { attaches: _ } | ServedCommand::Replay => {
+            ScriptBytes::read(rt.alloc(), &mut rt.reader())
+        }
+        ServedCommand::Create(_) | ServedCommand::Status => Ok(ScriptBytes::none(rt.alloc())),
+    }
+}
+
+/// Carries out the command over a bank, with threads of this handle, and tells why a script is refused. Where there is
+/// no memory for the script nothing is done.
 fn run_over<R: Threads + Wait + Sync, B: Bank + Drop + Send, K: Sink>(
     rt: &HostRuntime,
     threads: &R,
     words: &[String],
+    served: ServedCommand,
     bank: B,
     out: &mut K,
-) -> Outcome<B> {
-    let mut script = Input {
-        inner: rt.reader(),
-        faults: 0,
-    };
+) -> Result<Outcome<B>, AllocError> {
+    let mut script = script_for(rt, served)?;
     let outcome = raidzx(
         threads,
         rt.alloc(),
@@ -143,7 +154,7 @@ fn run_over<R: Threads + Wait + Sync, B: Bank + Drop + Send, K: Sink>(
         Status::Limit if outcome.journal.is_empty() => hint_limit(rt),
         _ => {}
     }
-    outcome
+    Ok(outcome)
 }
 
 /// Standard output.
@@ -169,7 +180,9 @@ fn serve_files<R: Threads + Wait + Sync>(
     if let Err(status) = look_first(rt, alloc, names, command, served, &lengths, &mut bank) {
         return end(rt, status);
     }
-    let outcome = run_over(rt, threads, command, bank, &mut output(rt));
+    let Ok(outcome) = run_over(rt, threads, command, served, bank, &mut output(rt)) else {
+        return end(rt, Status::NoMemory);
+    };
     let code = outcome.status.code();
     tell_files(rt, alloc, names, command, &lengths, outcome);
     ExitCode::from(code)
@@ -249,10 +262,10 @@ fn main(rt: HostRuntime) -> ExitCode {
     };
     match images.memory {
         Some(sectors) => match MemBank::new(rt.alloc(), count, sectors) {
-            Ok(bank) => {
-                let outcome = run_over(&rt, &rt, command, bank, &mut output(&rt));
-                ExitCode::from(outcome.status.code())
-            }
+            Ok(bank) => match run_over(&rt, &rt, command, served, bank, &mut output(&rt)) {
+                Ok(outcome) => ExitCode::from(outcome.status.code()),
+                Err(AllocError) => end(&rt, Status::NoMemory),
+            },
             Err(_) => end(&rt, Status::NoMemory),
         },
         None => {

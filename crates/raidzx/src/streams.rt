@@ -1,9 +1,9 @@
-// Standard output as a sink, standard input as a source, and what stands in for one that is closed.
-ghost use Rattle.std.specs.Prelude.{◌≡◌, ◌<◌, ◌≤◌, ℕ, List, Option, Some, None, IfOk, length};
+// Standard output as a sink, reads of standard input, and what stands in for one that is closed.
+ghost use Rattle.std.specs.Prelude.{◌≡◌, ◌<◌, ◌≤◌, ℕ, List, Option, IfOk, length};
 ghost use Rattle.std.specs.Io.{WritesAtMost};
 ghost use Rattle.std.specs.Io.KnownBytes.{WriteAppends};
 
-use bank_trait::{Failed, Sink, Source};
+use bank_trait::{Failed, Sink};
 use std::fs::{File, Files, OpenOptions};
 use std::io::{self, Error, ErrorKind, Read, Write};
 
@@ -69,14 +69,8 @@ impl<W: Write + Drop> Sink for Output<W> {
     }
 }
 
-/// A source over a reader. It tells nothing of what is left. A read that a signal interrupts is made again.
-#[derive(Drop)]
-pub struct Input<R> {
-    pub inner: R,
-    pub faults: u64,
-}
-
-fn read_on<R: Read>(reader: &mut R, into: &mut [u8]) -> io::Result<usize>
+/// What a read of standard input comes to. One that a signal interrupts is made again.
+pub fn read_on<R: Read>(reader: &mut R, into: &mut [u8]) -> io::Result<usize>
     ensures { IfOk result (λ count. count ≤ length into.new) }
 {
     for _ in 0..MOST_TRIES {
@@ -86,20 +80,4 @@ fn read_on<R: Read>(reader: &mut R, into: &mut [u8]) -> io::Result<usize>
         }
     }
     Err(Error::from(ErrorKind::Interrupted))
-}
-
-impl<R: Read + Drop> Source for Input<R> {
-    ghost left = { λ s. None };
-
-    ghost faults = { λ s. s.faults };
-
-    fn read(&mut self, into: &mut [u8]) -> Result<usize, Failed> {
-        match read_on(&mut self.inner, into) {
-            Ok(count) => Ok(count),
-            Err(_) => {
-                self.faults = self.faults.saturating_add(1);
-                Err(Failed)
-            }
-        }
-    }
 }
