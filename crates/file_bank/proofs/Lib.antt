@@ -3,3 +3,7 @@ pub mod Joined
 pub mod Longest
 pub mod Pieces
 pub mod MemSteps
+pub mod Rows
+pub mod KeptRows
+pub mod MemRows
+pub mod Finished

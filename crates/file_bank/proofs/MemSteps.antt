@@ -66,15 +66,15 @@ read_at (Some c) b among = at among.0 among.1 among.2
 module _ (first present new : List (List ℕ)) (calls later : List Call) (last moment : ℕ)
     (call : Call) (one_more : later ≡ calls ++ call ∷ []) (at : moment_of call ≡ moment)
     (above : last < moment) (by : AllBy last calls) where
-  abbrev was : FileHeld
+  abbrev pub was : FileHeld
   was = replayed_to last (all_certain first) calls
 
-  now : replayed_to moment (all_certain first) later ≡ after_call was call
+  pub now : replayed_to moment (all_certain first) later ≡ after_call was call
   now = ap (replayed_to moment (all_certain first)) one_more
       ∙ replay_after moment (all_certain first) calls call (omega (arith, at))
       ∙ ap (λ (h : FileHeld). after_call h call) (replay_still last moment (all_certain first) calls by (omega arith))
 
-  past : (t : ℕ) → t < moment
+  pub past : (t : ℕ) → t < moment
       → replayed_to t (all_certain first) later ≡ replayed_to t (all_certain first) calls
   past t before = ap (replayed_to t (all_certain first)) one_more
       ∙ replay_before t (all_certain first) calls call (omega (arith, at))
@@ -97,13 +97,13 @@ module _ (first present new : List (List ℕ)) (calls later : List Call) (last m
   leads_on reads x = ap (λ (h : FileHeld). h.reads x) now ∙ reads x
 
 -- What is read after a write.
-set_here : (present : List (List ℕ)) (x : ℕ) (bytes : List ℕ) → x < length present
+pub set_here : (present : List (List ℕ)) (x : ℕ) (bytes : List ℕ) → x < length present
     → slice_get (slice_set present x bytes) x ≡ Some bytes
 set_here present x bytes below =
     slice_get-get_or (slice_set present x bytes) x bytes (omega (arith, length-set present x bytes))
     ∙ ap Some (get_or-set_same present x bytes bytes below)
 
-set_other : (present : List (List ℕ)) (x y : ℕ) (bytes : List ℕ) → y ≢ x
+pub set_other : (present : List (List ℕ)) (x y : ℕ) (bytes : List ℕ) → y ≢ x
     → slice_get (slice_set present x bytes) y ≡ slice_get present y
 set_other present x y bytes other = by_case (cases_lt y (length present))
   where
@@ -150,20 +150,20 @@ module _ (held : FileHeld) (moment x : ℕ) (bytes : List ℕ) where
   reads_here : (after_call held (Write moment x bytes)).reads x ≡ Some bytes
   reads_here = grind (arith, nat_tests)
 
-  stays_here : (after_call held (Write moment x bytes)).stays x ≡ None
+  pub stays_here : (after_call held (Write moment x bytes)).stays x ≡ None
   stays_here = grind (arith, nat_tests)
 
-  could_here : (after_call held (Write moment x bytes)).could x ≡ bytes ∷ held.could x
-  could_here = grind (arith, nat_tests)
+  pub could_now_here : (after_call held (Write moment x bytes)).could x ≡ bytes ∷ held.could x
+  could_now_here = grind (arith, nat_tests)
 
   reads_other : (y : ℕ) → y ≢ x → (after_call held (Write moment x bytes)).reads y ≡ held.reads y
   reads_other y other = grind (arith, nat_tests)
 
-  stays_other : (y : ℕ) → y ≢ x → (after_call held (Write moment x bytes)).stays y ≡ held.stays y
+  pub stays_other : (y : ℕ) → y ≢ x → (after_call held (Write moment x bytes)).stays y ≡ held.stays y
   stays_other y other = grind (arith, nat_tests)
 
-  could_other : (y : ℕ) → y ≢ x → (after_call held (Write moment x bytes)).could y ≡ held.could y
-  could_other y other = grind (arith, nat_tests)
+  pub could_now_other : (y : ℕ) → y ≢ x → (after_call held (Write moment x bytes)).could y ≡ held.could y
+  could_now_other y other = grind (arith, nat_tests)
 
 -- A write leads on.
 pub wrote_leads : (first present : List (List ℕ)) (calls later : List Call) (last moment x : ℕ)
@@ -206,9 +206,9 @@ wrote first present calls later last moment x bytes one_more above below by =
       others_leave = λ y other.
           ap (λ (h : FileHeld). h.stays y) is_now ∙ stays_other held moment x bytes y other;
       could = λ b among. newest bytes (held.could x) b (subst (λ (l : List (List ℕ)). Contains l b)
-          (ap (λ (h : FileHeld). h.could x) is_now ∙ could_here held moment x bytes) among);
+          (ap (λ (h : FileHeld). h.could x) is_now ∙ could_now_here held moment x bytes) among);
       others_could = λ y other.
-          ap (λ (h : FileHeld). h.could y) is_now ∙ could_other held moment x bytes y other;
+          ap (λ (h : FileHeld). h.could y) is_now ∙ could_now_other held moment x bytes y other;
     }
 
 pub synced_leads : (first present : List (List ℕ)) (calls later : List Call) (last moment : ℕ)
@@ -234,7 +234,8 @@ synced first present calls later last moment one_more above by leads = record {
   still_could = tt;
 }
   where
-    is_now : replayed_to moment (all_certain first) later ≡ after_call (replayed_to last (all_certain first) calls) (Sync moment)
+    is_now : replayed_to moment (all_certain first) later ≡ after_call (replayed_to last (all_certain first) calls)
+        (Sync moment)
     is_now = now first present present calls later last moment (Sync moment) one_more refl above by
 
 -- A call that fails, and is not on record.

@@ -1,9 +1,11 @@
 -- A bank over files as contracts see it.
-use Rattle.std.specs.Prelude.{◌≡◌, ℕ, ◌-◌, ◌^◌, ◌≤◌, None, length, slice_index, slice_index_or}
+use Rattle.std.specs.Prelude.{◌≡◌, ◌⊎◌, ℕ, ◌-◌, ◌^◌, ◌≤◌, None, length, slice_index, slice_index_or}
 use Rattle.bank_trait.specs.Disk.{Disk}
 use Rattle.file_bank.specs.BlockFile.{Contents}
 use Rattle.file_bank.specs.Files.{all_shown, all_faults, as_bank, FileEndsBefore}
+use Rattle.file_bank.specs.Gathered.{KeepsNone}
 use Rattle.file_bank.specs.declared.bank.FileBank.{FileBank}
+use Rattle.file_bank.specs.declared.gathered.Gathered.{Gathered}
 
 -- the devices
 abbrev pub disk_of : {F : Type 0} {b : _} → (F → Contents) → FileBank F b → Disk
@@ -25,3 +27,8 @@ LacksSector contents bank device sector = FileEndsBefore (all_shown contents ban
 -- No moment is left for one more write or sync.
 abbrev pub LacksMoment : {F : Type 0} {b : _} → FileBank F b → Type 0
 LacksMoment bank = 2 ^ 64 - 1 ≤ bank.clock
+
+-- All that was written to a device is handed over to its file, or a call on it has failed.
+abbrev pub HasHandedOver : {F : Type 0} {g b : _} → FileBank (Gathered F g) b → ℕ → Type 0
+HasHandedOver bank device = KeepsNone (slice_index_or bank.files.items device None)
+    ⊎ (1 ≤ slice_index bank.faults.items device)

@@ -5,3 +5,8 @@ pub mod Lawful
 pub mod Record
 pub mod MemFile
 pub mod MemLaws
+pub mod Row
+pub mod KeptRow
+pub mod Gathered
+pub mod RowProps
+pub mod RowLaws

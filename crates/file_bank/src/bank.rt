@@ -3,6 +3,9 @@ ghost use Rattle.std.specs.Prelude.{◌≡◌, ◌<◌, ◌≤◌, ◌^◌, ℕ,
 ghost use Rattle.file_bank.specs.Files.{CountsCall, IsLongest, all_shown, longer, shown};
 
 use crate::block_file::BlockFile;
+use crate::finish::finish_file;
+use crate::gathered::Gathered;
+use crate::row_file::RowFile;
 use crate::slot::{SECTOR_BYTES, read_sector, sync_file, write_sector};
 use bank_trait::{Bank, Failed};
 
@@ -104,6 +107,45 @@ impl<F: BlockFile> FileBank<F> {
         ensures { result ≡ (disk_of F.contents self.now).faults device }
     {
         self.faults[device as usize]
+    }
+}
+
+impl<F: RowFile> FileBank<Gathered<F>> {
+    ghost use Rattle.std.specs.Prelude.{◌≢◌, None, slice_index_or};
+    ghost use Rattle.bank_trait.specs.Disk.{Unchanged};
+    ghost use Rattle.file_bank.specs.FileBank.{HasHandedOver, disk_of};
+    ghost use Rattle.file_bank.specs.Gathered.{told_of};
+
+    fn finish_device(&mut self, number: usize)
+        requires { number < length self.old.files.items }
+        ensures unchanged { Unchanged (disk_of (told_of F.contents) self.old)
+            (disk_of (told_of F.contents) self.new) }
+        ensures len { length self.new.files.items ≡ length self.old.files.items }
+        ensures handed { slice_index self.old.faults.items number ≡ 0
+            → HasHandedOver self.new number }
+        ensures others { (device : ℕ) → device ≢ number → slice_index_or self.new.files.items device None
+            ≡ slice_index_or self.old.files.items device None }
+        ensures counts { (device : ℕ) → device ≢ number
+            → slice_index self.new.faults.items device ≡ slice_index self.old.faults.items device }
+    {
+        if self.faults[number] > 0 {
+            return;
+        }
+        let outcome = finish_file(&mut self.files[number]);
+        note(&mut self.faults, number, outcome);
+    }
+
+    /// Hands over what is kept of each device of which no call has failed, at the end of a run. Where that fails it
+    /// is counted.
+    pub fn finish(&mut self)
+        ensures unchanged { Unchanged (disk_of (told_of F.contents) self.old)
+            (disk_of (told_of F.contents) self.new) }
+        ensures handed { (device : ℕ) → device < (disk_of (told_of F.contents) self.old).devices
+            → (disk_of (told_of F.contents) self.old).faults device ≡ 0 → HasHandedOver self.new device }
+    {
+        for number in 0..self.files.len() {
+            self.finish_device(number);
+        }
     }
 }
 

@@ -8,11 +8,17 @@
 
 mod bank;
 mod block_file;
+mod finish;
+mod gathered;
+mod kept_row;
 mod mem_file;
 mod record;
+mod row_file;
 mod slot;
 
 pub use bank::FileBank;
 pub use block_file::{BlockFile, ReadFault, count_call};
+pub use gathered::Gathered;
 pub use mem_file::MemFile;
+pub use row_file::{MOST_IN_ROW, RowFile};
 pub use slot::SECTOR_BYTES;

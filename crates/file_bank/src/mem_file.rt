@@ -5,6 +5,7 @@ ghost use Rattle.file_bank.specs.Record.{AllBy, LeadsToSectors};
 
 use crate::block_file::{BlockFile, ReadFault};
 use crate::record::{Call, Plan};
+use crate::row_file::RowFile;
 use bank_trait::Failed;
 use std::alloc::{AllocError, Global};
 
@@ -82,6 +83,7 @@ impl BlockFile for MemFile {
     ghost use Rattle.file_bank.specs.BlockFile.{CountsFault, GivesBytes, Written, Settled};
     ghost use Rattle.file_bank.specs.MemFile.{file_of, faults_of, piece_of, calls_made, OneCallMade, FailsNextOn};
     ghost use Rattle.file_bank.specs.MemLaws.{lawful};
+    ghost use Rattle.file_bank.specs.Row.{TellsSame, kept_sector, with_sector};
 
     ghost contents = { file_of };
 
@@ -131,6 +133,10 @@ impl BlockFile for MemFile {
         ensures counts { CountsFault (faults_of self.old) (faults_of self.new) result }
         ensures listed { OnOk result (FailsNextOn self.old → ⊥) }
         ensures made { OneCallMade self.old self.new }
+        ensures exact { OnOk result (TellsSame (with_sector (file_of self.old) (offset / 512)
+            (kept_sector moment from.now)) (file_of self.new)) }
+        ensures last { OnOk result ((file_of self.new).last ≡ moment) }
+        ensures none { OnErr result (file_of self.new ≡ file_of self.old) }
     {
         if self.plan.fails_now() {
             return Err(Failed);
@@ -171,5 +177,54 @@ impl BlockFile for MemFile {
         }
         self.last = moment;
         Ok(())
+    }
+}
+
+/// A row is written sector by sector, and each of these calls has its number. It is read in one call.
+impl RowFile for MemFile {
+    ghost use Rattle.file_bank.specs.MemFile.{file_of, faults_of};
+    ghost use Rattle.file_bank.specs.MemLaws.{lawful};
+
+    ghost contents = { file_of };
+
+    ghost faults = { faults_of };
+
+    ghost lawful = { λ file. lawful file.first.items file.present.items file.calls.items
+        file.last file.by file.same file.whole };
+
+    fn length(&self) -> u64 {
+        BlockFile::length(self)
+    }
+
+    fn last_moment(&self) -> u64 {
+        self.last
+    }
+
+    fn read_at(&mut self, offset: u64, into: &mut [u8]) -> Result<usize, ReadFault> {
+        BlockFile::read_at(self, offset, into)
+    }
+
+    /// None comes where the call is listed, or where a read gives fewer bytes.
+    fn read_row(&mut self, offset: u64, into: &mut [[u8; 512]]) -> Result<(), Failed> {
+        if self.plan.is_next_listed() || self.piece < into.len() * 512 {
+            return Err(Failed);
+        }
+        let from = (offset / 512) as usize;
+        into.copy_from_slice(&self.present[from..from + into.len()]);
+        Ok(())
+    }
+
+    fn write_row(&mut self, offset: u64, moments: &[u64], row: &[[u8; 512]]) -> Result<(), usize> {
+        for index in 0..row.len() {
+            let place = offset + index as u64 * 512;
+            if self.write_at(moments[index], place, &row[index]).is_err() {
+                return Err(index);
+            }
+        }
+        Ok(())
+    }
+
+    fn sync(&mut self, moment: u64) -> Result<(), Failed> {
+        BlockFile::sync(self, moment)
     }
 }

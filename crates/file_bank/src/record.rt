@@ -33,13 +33,23 @@ impl Plan {
         ensures well { result ≡ false → self.new.faults ≡ self.old.faults }
         ensures listed { self.new.fails.items ≡ self.old.fails.items }
     {
-        let number = self.made;
-        self.made = number.saturating_add(1);
-        let listed = self.fails.contains(&number);
+        let listed = self.is_next_listed();
         if listed {
             self.count_fault();
         }
         listed
+    }
+
+    /// Whether the next call is listed, which numbers it and counts no fault.
+    pub fn is_next_listed(&mut self) -> bool
+        ensures fails { IsTrue result ↔ Contains self.old.fails.items self.old.made }
+        ensures made { self.new.made ≡ counted self.old.made }
+        ensures faults { self.new.faults ≡ self.old.faults }
+        ensures listed { self.new.fails.items ≡ self.old.fails.items }
+    {
+        let number = self.made;
+        self.made = number.saturating_add(1);
+        self.fails.contains(&number)
     }
 
     /// Counts a call that failed.

@@ -2,6 +2,7 @@ use Rattle.std.proofs.Common.{◌≡◌, ◌<◌, ◌/◌, [], ◌∷◌, ◌++�
 use Rattle.bank_trait.specs.Causes.{counted}
 use Rattle.file_bank.specs.declared.record.Call.TheVariants.{Write}
 use Rattle.file_bank.proofs.MemSteps.{by_more, wrote, wrote_leads, set_whole, write_failed}
+use Rattle.file_bank.proofs.MemRows.{wrote_tells}
 use Rattle.file_bank.proofs.mem_file.MemFileBlockFile.write_at.Goals as goal
 
 pub returns-then-fails_now-clause-written : goal.returns-then-fails_now-clause-written
@@ -50,3 +51,10 @@ returns-then-is_err-clause-counts c = record {
   failed = c.count_fault.ensures.faults ∙ ap counted (c.fails_now.ensures.well c.if-fails_now.false);
   well = tt;
 }
+
+pub returns-clause-exact : goal.returns-clause-exact
+returns-clause-exact c =
+    let one_more : c.push.new.self.items ≡ c.args.self.now.calls.items
+    ++ Write c.args.moment (c.args.offset / 512) c.args.from.now ∷ [] = search rules in
+    let below : c.args.offset / 512 < length c.args.self.now.present.items = omega arith in
+    wrote_tells _ _ _ _ _ _ _ _ one_more c.requires.later below c.args.self.now.by
