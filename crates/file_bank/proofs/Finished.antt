@@ -1,4 +1,5 @@
 -- What the end of a run does to the bank that the files make.
+use Rattle.std.proofs.Common.{◌+◌}
 use Rattle.std.proofs.Common.{◌≡◌, ◌≢◌, ◌⊎◌, inl, inr, ℕ, ◌<◌, ◌≤◌, List, length, Option, None, Result, refl, sym, ◌∙◌}
 use Rattle.std.proofs.Common.{subst, arith, slice_index_or, slice_set}
 use Rattle.std.proofs.lemmas.List.{get_or-set_same, get_or-set_other, length-set, get_or_default}
@@ -84,3 +85,14 @@ unchanged_then old mid new first next = record {
   clock = next.clock ∙ first.clock;
   reads = λ e x. next.reads e x ∙ first.reads e x;
 }
+
+-- What holds of each file up to here, and of the next one, which alone was changed, holds of one more.
+pub one_more : {X : Type 0} (P : Option X → Type 0) (files now : List (Option X)) (number : ℕ)
+    → ((d : ℕ) → d < number → P (slice_index_or files d None)) → P (slice_index_or now number None)
+    → ((d : ℕ) → d ≢ number → slice_index_or now d None ≡ slice_index_or files d None)
+    → (d : ℕ) → d < number + 1 → P (slice_index_or now d None)
+one_more P files now number so_far here others d below = by_case (cases_eq d number)
+  where
+    by_case : (d ≡ number) ⊎ (d ≢ number) → P (slice_index_or now d None)
+    by_case (inl at) = subst (λ (k : ℕ). P (slice_index_or now k None)) (sym at) here
+    by_case (inr other) = subst P (sym (others d other)) (so_far d (omega (arith, below, other)))

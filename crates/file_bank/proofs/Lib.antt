@@ -5,5 +5,6 @@ pub mod Pieces
 pub mod MemSteps
 pub mod Rows
 pub mod KeptRows
+pub mod Ahead
 pub mod MemRows
 pub mod Finished

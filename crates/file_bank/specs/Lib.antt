@@ -10,3 +10,5 @@ pub mod KeptRow
 pub mod Gathered
 pub mod RowProps
 pub mod RowLaws
+pub mod ReadPiece
+pub mod ReadAhead

@@ -53,9 +53,9 @@ by_moment moment file = record {
   could = file.could;
 }
 
--- Each of these is the sector that stands there, where that is told.
-abbrev pub GivesRow : Contents → ℕ → List (List ℕ) → Type 0
-GivesRow file x row = (i : ℕ) → i < length row → (bytes : List ℕ) → file.reads (x + i) ≡ Some bytes
+-- So many of these are the sectors that stand there, where these are told.
+abbrev pub GivesRow : Contents → ℕ → ℕ → List (List ℕ) → Type 0
+GivesRow file x count row = (i : ℕ) → i < count → (bytes : List ℕ) → file.reads (x + i) ≡ Some bytes
     → slice_get row i ≡ Some bytes
 
 -- A piece is what stands in one of these sectors, from this byte of it on.

@@ -3,8 +3,9 @@ ghost use Rattle.std.specs.Prelude.{◌≡◌, ◌<◌, ◌≤◌, ◌^◌, ℕ,
 ghost use Rattle.file_bank.specs.Files.{CountsCall, IsLongest, all_shown, longer, shown};
 
 use crate::block_file::BlockFile;
-use crate::finish::finish_file;
 use crate::gathered::Gathered;
+use crate::opened::{finish_file, forget_file};
+use crate::read_ahead::ReadAhead;
 use crate::row_file::RowFile;
 use crate::slot::{SECTOR_BYTES, read_sector, sync_file, write_sector};
 use bank_trait::{Bank, Failed};
@@ -145,6 +146,38 @@ impl<F: RowFile> FileBank<Gathered<F>> {
     {
         for number in 0..self.files.len() {
             self.finish_device(number);
+        }
+    }
+}
+
+impl<F: RowFile> FileBank<Gathered<ReadAhead<F>>> {
+    ghost use Rattle.std.specs.Prelude.{◌≢◌, None, slice_index_or};
+    ghost use Rattle.bank_trait.specs.Disk.{Unchanged};
+    ghost use Rattle.file_bank.specs.FileBank.{disk_of};
+    ghost use Rattle.file_bank.specs.Gathered.{told_of};
+    ghost use Rattle.file_bank.specs.ReadAhead.{HasForgotten, ahead_contents};
+
+    fn forget_device(&mut self, number: usize)
+        requires { number < length self.old.files.items }
+        ensures unchanged { Unchanged (disk_of (told_of (ahead_contents F.contents)) self.old)
+            (disk_of (told_of (ahead_contents F.contents)) self.new) }
+        ensures len { length self.new.files.items ≡ length self.old.files.items }
+        ensures forgotten { HasForgotten (slice_index_or self.new.files.items number None) }
+        ensures others { (device : ℕ) → device ≢ number → slice_index_or self.new.files.items device None
+            ≡ slice_index_or self.old.files.items device None }
+    {
+        forget_file(&mut self.files[number]);
+    }
+
+    /// Forgets what was read of each device, so that a second look asks the files again.
+    pub fn forget_reads(&mut self)
+        ensures unchanged { Unchanged (disk_of (told_of (ahead_contents F.contents)) self.old)
+            (disk_of (told_of (ahead_contents F.contents)) self.new) }
+        ensures forgotten { (device : ℕ) → device < (disk_of (told_of (ahead_contents F.contents)) self.old).devices
+            → HasForgotten (slice_index_or self.new.files.items device None) }
+    {
+        for number in 0..self.files.len() {
+            self.forget_device(number);
         }
     }
 }

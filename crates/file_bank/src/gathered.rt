@@ -8,6 +8,7 @@ ghost use Rattle.file_bank.specs.RowProps.{kept_by_prop, rising_prop};
 
 use crate::block_file::{BlockFile, ReadFault, count_call};
 use crate::kept_row::KeptRow;
+use crate::read_ahead::ReadAhead;
 use crate::row_file::RowFile;
 use bank_trait::Failed;
 use std::alloc::{AllocError, Global};
@@ -175,6 +176,21 @@ impl<F: RowFile> Gathered<F> {
             self.hand_over()
         };
         count_call(&mut self.faults, outcome)
+    }
+}
+
+impl<F: RowFile> Gathered<ReadAhead<F>> {
+    ghost use Rattle.file_bank.specs.Gathered.{told_of, gathered_faults};
+    ghost use Rattle.file_bank.specs.ReadAhead.{RemembersNone, ahead_contents};
+
+    /// Forgets what was read, so that each sector that is not kept is asked of the file again.
+    pub fn forget_reads(&mut self)
+        ensures same { told_of (ahead_contents F.contents) self.new
+            ≡ told_of (ahead_contents F.contents) self.old }
+        ensures faults { gathered_faults self.new ≡ gathered_faults self.old }
+        ensures none { RemembersNone self.new.file }
+    {
+        self.file.forget();
     }
 }
 

@@ -8,10 +8,12 @@
 
 mod bank;
 mod block_file;
-mod finish;
 mod gathered;
 mod kept_row;
 mod mem_file;
+mod opened;
+mod read_ahead;
+mod read_piece;
 mod record;
 mod row_file;
 mod slot;
@@ -20,5 +22,6 @@ pub use bank::FileBank;
 pub use block_file::{BlockFile, ReadFault, count_call};
 pub use gathered::Gathered;
 pub use mem_file::MemFile;
+pub use read_ahead::ReadAhead;
 pub use row_file::{MOST_IN_ROW, RowFile};
 pub use slot::SECTOR_BYTES;

@@ -43,7 +43,7 @@ pub trait RowFile {
         requires some { 0 < length into.old }
         requires most { length into.old ≤ 64 }
         requires inside { offset + 512 * length into.old ≤ (contents self.old).length }
-        ensures bytes { OnOk result (GivesRow (contents self.old) (offset / 512) into.new) }
+        ensures bytes { OnOk result (GivesRow (contents self.old) (offset / 512) (length into.old) into.new) }
         ensures same { contents self.new ≡ contents self.old }
         ensures uncounted { faults self.new ≡ faults self.old };
 
