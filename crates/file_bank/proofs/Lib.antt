@@ -8,3 +8,4 @@ pub mod KeptRows
 pub mod Ahead
 pub mod MemRows
 pub mod Finished
+pub mod Untold
