@@ -168,7 +168,8 @@ fn no_device_is_attached_while_another_is_out(rt: HostRuntime) -> Result<(), Fai
     Ok(())
 }
 
-/// The first call of the attach's commit on a device of the pool fails, a sync: the group is made without the new device.
+/// The first call of the attach's commit on a device of the pool fails, a sync: the group is made without the new
+/// device.
 #[test]
 fn no_device_joins_where_another_fails_in_its_commit(rt: HostRuntime) -> Result<(), Fail> {
     let alloc = rt.alloc();

@@ -32,8 +32,8 @@ fn with_widening(alloc: Global, mut plan: Plan) -> Result<Plan, AllocError> {
     Ok(plan)
 }
 
-/// The journal of a plan whose clients have threads of their own is legal, with an answer to each call, and what is read
-/// afterwards is the map of its last group.
+/// The journal of a plan whose clients have threads of their own is legal, with an answer to each call, and what is
+/// read afterwards is the map of its last group.
 fn check_beside<R: Abort + Threads + Wait + Sync>(
     rt: &R,
     alloc: Global,

@@ -1,4 +1,5 @@
-// Two that go on beside each other, a copy and a client or two clients, held up by a gate until each has seen the other.
+// Two that go on beside each other, a copy and a client or two clients, held up by a gate until each has seen the
+// other.
 use crate::calls::{REPLAY, RUN, RUN_AND_ATTACH, Told, call, call_held_up};
 use bank_mem::MemBank;
 use bank_trait::{Gate, Point};

@@ -1,7 +1,8 @@
 //! What whole calls over banks in memory, and over files there, show: tests alone, of the top call and its threads.
 //!
 //! They stand here, apart from those of `pool_tests`, since the proof of tests goes over all that they link, and begins
-//! once that is proved. `calls` carries commands out; `test_pools` makes their pools, and draws and checks their scripts.
+//! once that is proved. `calls` carries commands out; `test_pools` makes their pools, and draws and checks their
+//! scripts.
 #![tactic(auto)]
 
 #[cfg(test)]

@@ -1,5 +1,5 @@
-// A pool's whole way, each joint of it: made, filled, cut short in a commit, opened again on the bank that was given back,
-// widened on a larger bank, stopped in the copy, and copied to the end.
+// A pool's whole way, each joint of it: made, filled, cut short in a commit, opened again on the bank that was given
+// back, widened on a larger bank, stopped in the copy, and copied to the end.
 use crate::calls::{MAKE_NINE, RUN, STATUS, call, carry_out};
 use crate::copy_stop_tests::all_sectors;
 use bank_mem::{MemBank, Tear};
@@ -16,7 +16,8 @@ use uberblock_ring::DeviceSet;
 
 const MADE: &[u8] = b"pool 9 parity 1 width 3 rows 64 group 1\n";
 
-/// With their parities the blocks take sectors 0 to 131. The third one lies across 128, where the first mark of the copy is.
+/// With their parities the blocks take sectors 0 to 131. The third one lies across 128, where the first mark of the
+/// copy is.
 const PUTS: &[u8] = b"clients 1
 a put 1 1000 5
 a put 2 40000 1
@@ -107,8 +108,8 @@ const ABSENT: &str = "absent\n";
 
 const THERE: &str = "bytes 61\n";
 
-/// Whether a run reads the blocks back while this device fails, if there is one of this number. The line of the last block
-/// ends in one of these ways.
+/// Whether a run reads the blocks back while this device fails, if there is one of this number. The line of the last
+/// block ends in one of these ways.
 fn is_read(alloc: Global, bank: MemBank, failing: u32, lasts: &[&str]) -> Result<bool, Fail> {
     let mut bank = bank;
     bank.fail_from(failing, 0)?;
@@ -148,8 +149,8 @@ fn check_stops(rt: &impl Abort, alloc: Global, bank: &MemBank, begun: u64) -> Re
     Ok(())
 }
 
-/// On the bank that is given back, without a power cut, the next run reads the blocks and commits, and they are read behind
-/// it.
+/// On the bank that is given back, without a power cut, the next run reads the blocks and commits, and they are read
+/// behind it.
 fn go_on<R: Abort + Threads + Wait + Sync>(
     rt: &R,
     alloc: Global,
@@ -217,9 +218,9 @@ const COPY_TOLD: &[u8] = b"0 group 15 after 0
 5 x.1 copy done width 4
 ";
 
-/// Stops in the midst of each part of the copy: behind how many of its writes and syncs, and what a look tells of the group
-/// and the mark then. Four calls of a commit for each device, beside the opening's three, come between the parts: the fill
-/// of 128 sectors, the drain, and 39 and 25 sectors that are moved behind it.
+/// Stops in the midst of each part of the copy: behind how many of its writes and syncs, and what a look tells of the
+/// group and the mark then. Four calls of a commit for each device, beside the opening's three, come between the parts:
+/// the fill of 128 sectors, the drain, and 39 and 25 sectors that are moved behind it.
 const STOPS: [(u64, &str); 4] = [
     (12 + 64, "15\nwidth 3 to 4 mark 0 state none"),
     (156 + 64, "16\nwidth 3 to 4 mark 128 state valid"),
@@ -244,8 +245,8 @@ fn attached<R: Abort + Threads + Wait + Sync>(rt: &R, alloc: Global) -> Result<M
     carry_out(rt, alloc, RUN, larger, ATTACH, ATTACH_TOLD)
 }
 
-/// What a stop left is told so and read back, also without a device. The copy goes on there to its end, and behind that the
-/// blocks are read back too.
+/// What a stop left is told so and read back, also without a device. The copy goes on there to its end, and behind that
+/// the blocks are read back too.
 fn copy_on<R: Abort + Threads + Wait + Sync>(
     rt: &R,
     alloc: Global,

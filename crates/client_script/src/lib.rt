@@ -4,8 +4,8 @@
 //! and a script one answer. Read `specs/Lines.antt` for a line, `specs/Script.antt` for a whole
 //! script and its refusals, `specs/Texts.antt` for what is printed and `specs/Written.antt` for how
 //! it reaches a sink; `specs/FromSource.antt` is for scripts from a source, `specs/InOrder.antt` for
-//! calls one after the other, `specs/Copier.antt` for a client that widens the pool. Stands on `core_state` for calls and answers, on `bank_trait` for
-//! sources and sinks.
+//! calls one after the other, `specs/Copier.antt` for a client that widens the pool. Stands on `core_state` for calls
+//! and answers, on `bank_trait` for sources and sinks.
 #![tactic(auto)]
 
 mod call;

@@ -49,8 +49,8 @@ fn pool_without(alloc: Global, device: u32) -> Result<PoolOnBank, Fail> {
     Ok(pool)
 }
 
-/// A pool that was opened beside a fourth device which shows the pool's last uberblock, for a device of this number; and
-/// the slot that shows it.
+/// A pool that was opened beside a fourth device which shows the pool's last uberblock, for a device of this number;
+/// and the slot that shows it.
 fn pool_beside(rt: &impl Abort, alloc: Global, number: u32) -> Result<(PoolOnBank, u32), Fail> {
     let pool = pool_of_three(alloc, 4, &MIXED)?;
     let uber = pool.last_uber(rt, alloc)?;

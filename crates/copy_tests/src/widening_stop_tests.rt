@@ -46,8 +46,8 @@ fn is_read_without(alloc: Global, left: &MemBank, failing: u32) -> Result<bool, 
     are_read(alloc, &mut again, &MIXED)
 }
 
-/// The first of the devices, or the number behind the last, without which a block is not read after a stop behind so many
-/// writes and syncs.
+/// The first of the devices, or the number behind the last, without which a block is not read after a stop behind so
+/// many writes and syncs.
 fn not_read_without(
     alloc: Global,
     bank: &MemBank,
@@ -63,8 +63,8 @@ fn not_read_without(
     Ok(None)
 }
 
-/// Stops before a round, behind each of its writes and syncs, and so behind it. Where a block is not read behind a stop,
-/// says at which.
+/// Stops before a round, behind each of its writes and syncs, and so behind it. Where a block is not read behind a
+/// stop, says at which.
 fn stop_in_round(rt: &(impl Abort + Print), alloc: Global, round: usize) -> Result<(), Fail> {
     assert!(rt; round < 8);
     let (from, to) = (DONE[round], DONE[round + 1]);

@@ -72,8 +72,8 @@ pub record GoesOneOn (before after : BlockRead) : Type 0 where
 -- The next column was read where its row stands, or passed over, and what that gave is put in its place.
 pub record ReadsColumn (reflow : Reflow) (before : BlockRead) (here : Point) (after : BlockRead)
     (there : Point) : Type 0 where
-  pub column : HasReadColumn (spot_of before.layout reflow before.row before.column) before.row before.column before.read here
-      after.read there
+  pub column : HasReadColumn (spot_of before.layout reflow before.row before.column) before.row before.column
+      before.read here after.read there
   pub on : GoesOneOn before after
 
 -- A column is the block's, or was lost with its device.

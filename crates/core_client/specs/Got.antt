@@ -34,8 +34,8 @@ pub record HasPut (row column : ℕ) (got : Option (List ℕ)) (old new : Column
       → got_of new other_row other ≡ got_of old other_row other
 
 -- A spot was read, or passed over, and what that gave was put in one column.
-pub record HasReadColumn (spot : Spot) (row column : ℕ) (old : ColumnsRead) (here : Point) (new : ColumnsRead) (there : Point)
-    : Type 0 where
+pub record HasReadColumn (spot : Spot) (row column : ℕ) (old : ColumnsRead) (here : Point) (new : ColumnsRead)
+    (there : Point) : Type 0 where
   pub given : Option (List ℕ)
   pub read : IsPassedOrRead spot given here there
   pub put : HasPut row column given old new

@@ -119,6 +119,7 @@ impl BlockRead {
         requires bank { HasPool reflow.now out.old (B.disk bank.old) }
         ensures step { ReadsColumn reflow.now self.old (point_of out.old (B.disk bank.old))
             self.new (point_of out.new (B.disk bank.new)) }
+        ensures place { IsAtColumn self.old }
         ensures unchanged { Unchanged (B.disk bank.old) (B.disk bank.new) }
         ensures out { OnlyFailedGoOut (point_of out.old (B.disk bank.old))
             (point_of out.new (B.disk bank.new)) }

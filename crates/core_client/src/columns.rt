@@ -18,7 +18,8 @@ use std::alloc::Global;
 use std::mem::replace;
 use uberblock_ring::DeviceSet;
 
-/// The columns of a block that is read: its own, or once all were read and others asked for them those that they have too.
+/// The columns of a block that is read: its own, or once all were read and others asked for them those that they have
+/// too.
 #[derive(Drop)]
 pub(crate) enum Columns {
     Own(ColumnsRead),

@@ -6,10 +6,10 @@
 //! the steps, and `core_state`'s `specs/Committing.antt` for what they keep; and `specs/Spread.antt` for
 //! a group that is brought to the devices that lack it.
 //!
-//! A new device may join a commit at the first uberblock write (`JoinRun`, `specs/JoinTurns.antt`). Until then it is laid
-//! the page and synced beside the devices of the pool, and a call that fails on it fails on no device of the pool. Then
-//! it is decided: where it has not failed and no device of the pool is out, the group is made with it; else without it.
-//! Stands on `commit_job`, `attach_ring`, `mark_choice` and `core_state`.
+//! A new device may join a commit at the first uberblock write (`JoinRun`, `specs/JoinTurns.antt`). Until then it is
+//! laid the page and synced beside the devices of the pool, and a call that fails on it fails on no device of the pool.
+//! Then it is decided: where it has not failed and no device of the pool is out, the group is made with it; else
+//! without it. Stands on `commit_job`, `attach_ring`, `mark_choice` and `core_state`.
 #![tactic(auto)]
 
 mod commit_run;

@@ -36,7 +36,8 @@ IsOutside lo hi first row_end = (hi ≤ lo) ⊎ ((row_end ≤ lo) ⊎ (hi ≤ fi
 
 -- What a choice comes to: the expansion goes on, with its front where it may be, or it has ended.
 pub data GoesOnOrEnds (reflow : Reflow) (done : ℕ) (chosen : Reflow) : Type 0 where
-  GoesOn : (widening : IsWidening chosen) (front : IsFrontOf chosen (front_behind reflow done chosen)) → GoesOnOrEnds reflow done chosen
+  GoesOn : (widening : IsWidening chosen) (front : IsFrontOf chosen (front_behind reflow done chosen))
+      → GoesOnOrEnds reflow done chosen
   HasEnded : (all : sectors_of reflow ≤ done)
       (is : chosen ≡ record { from = reflow.to; to = reflow.to; rows = reflow.rows; mark = 0; state = None })
       → GoesOnOrEnds reflow done chosen
@@ -48,8 +49,8 @@ RowsStand reflow done chosen = (first row_end sector : ℕ) → first ≤ sector
     → IsOutside (range_of_commit reflow chosen).0 (range_of_commit reflow chosen).1 first row_end
     → AsksSame reflow done chosen (front_behind reflow done chosen) row_end sector
 
--- A reflow that a commit records is right, and its front behind the answer is where it may be. What it asks for, after a
--- stop and behind the answer, is asked for already.
+-- A reflow that a commit records is right, and its front behind the answer is where it may be. What it asks for, after
+-- a stop and behind the answer, is asked for already.
 pub record FollowsOn (reflow : Reflow) (done : ℕ) (chosen : Reflow) : Type 0 where
   pub right : IsRightReflow chosen
   pub widths : IsStepOfWidths reflow chosen

@@ -29,8 +29,8 @@ IsTarget reflow job sector device device_sector =
 abbrev pub IsOnPool : Reflow → ℕ → ℕ → Type 0
 IsOnPool reflow device device_sector = (device < reflow.to) × (device_sector < first_data_sector + reflow.rows)
 
--- A job that has come to the sector `next` keeps a cell right at the front at which it began, and has copied it where it
--- has come past it.
+-- A job that has come to the sector `next` keeps a cell right at the front at which it began, and has copied it where
+-- it has come past it.
 pub record HasComeTo (reflow : Reflow) (done : ℕ) (job : Job) (next : ℕ) (disk : Disk) (out : ℕ)
     (excepted : Excepted) (cell : Cell) : Type 0 where
   pub right : RightAt disk.reads reflow done out excepted cell

@@ -1,5 +1,5 @@
 -- A run may begin on a bank that has further devices, or more sectors, than the one that kept the groups.
-use Rattle.std.proofs.Common.{get_or, ◌≡◌, ◌≢◌, ⊎_elim, ℕ, ◌+◌, ◌<◌, ◌≤◌, List, ◌∷◌, Some, refl, sym, ap, subst, arith}
+use Rattle.std.proofs.Common.{get_or, ◌≡◌, ◌≢◌, ⊎_elim, ℕ, ◌<◌, ◌≤◌, List, ◌∷◌, refl, sym, ap, subst, arith}
 use Rattle.std.specs.Prelude.{Contains, min}
 use Rattle.std.proofs.lemmas.Bool.{cases_lt}
 use Rattle.std.proofs.lemmas.Bool.Decides.{nat_tests}
@@ -9,14 +9,14 @@ use Rattle.bank_trait.specs.Regions.{Tells}
 use Rattle.block_record.specs.declared.entry.IndexEntry.{IndexEntry}
 use Rattle.uberblock_ring.specs.Uberblock.{Uber, encoded, slot_of}
 use Rattle.uberblock_ring.specs.Valid.{AreAlike}
-use Rattle.core_state.specs.Shown.{Gives, IsCandidate, Shape, Shows, read_devices}
+use Rattle.core_state.specs.Shown.{Gives, IsCandidate, Shape, Shows}
 use Rattle.core_state.specs.Choosing.{Names}
 use Rattle.core_state.specs.Keeps.{HasWidthIn, IsKept, IsNotOutvoted, Keeps, Kept, NamesOther, Setting}
 use Rattle.core_state.specs.Collision.{HasNoOtherPage, MightStand}
 use Rattle.core_state.proofs.Places.{asks_device, right_widths}
 use Rattle.core_open.specs.Holds.{HoldsImage, shape_of}
 use Rattle.core_open.specs.Opening.{MayBegin}
-use Rattle.core_open.specs.Adding.{BeginsWith, MayBeAdded, setting_on}
+use Rattle.core_open.specs.Adding.{ExtendsBank, MayBeAdded, setting_on}
 
 -- A slot is one of the first 32 sectors.
 slot_below : (group sectors : ℕ) → 32 ≤ sectors → slot_of group < sectors
@@ -141,7 +141,7 @@ module _ (setting : Setting) (shape : Shape) (devices : setting.shape.devices �
       candidate device uber is = wider_candidate setting.shape shape devices sectors image 0 setting.pool device uber first.entries is
 
 -- What might stand on a further bank might stand on the one that it begins with.
-might_before : (old new : Disk) → BeginsWith old new → (image : Image) → MightStand (shape_of new) new new.clock image
+might_before : (old new : Disk) → ExtendsBank old new → (image : Image) → MightStand (shape_of new) new new.clock image
     → MightStand (shape_of old) old old.clock image
 might_before old new begins image might = record {
   fits = record { at = λ d x bytes is. might.fits.at d x bytes (begins.leaves d x bytes is) };
@@ -192,7 +192,7 @@ module _ (setting : Setting) (first : Kept) (later : List Kept) (old new : Disk)
 
 -- Devices that show no uberblock at all may be added: nobody names another pool by them.
 module _ (setting : Setting) (first : Kept) (later : List Kept) (old new : Disk)
-    (may : MayBegin setting first later old) (begins : BeginsWith old new) (pool : setting.reach ≤ old.devices)
+    (may : MayBegin setting first later old) (begins : ExtendsBank old new) (pool : setting.reach ≤ old.devices)
     (none : (image : Image) (device : ℕ) (uber : Uber) → MightStand (shape_of new) new new.clock image
     → old.devices ≤ device → Shows (shape_of new) image device uber → ⊥) where
   named_before : (image : Image) → MightStand (shape_of new) new new.clock image → 32 ≤ old.sectors → (other device : ℕ)

@@ -12,13 +12,14 @@ use Rattle.uberblock_ring.specs.Uberblock.{Uber, slot_of, area_sector}
 use Rattle.uberblock_ring.specs.Valid.{AreAlike}
 use Rattle.core_state.specs.Shown.{Shape, Gives, IsCandidate}
 use Rattle.core_state.specs.Choosing.{IsChosen}
-use Rattle.core_state.specs.Keeps.{Kept, Setting, Renews}
+use Rattle.core_state.specs.Keeps.{Keeps, Kept, Setting, Renews}
 use Rattle.core_state.specs.Collision.{HasNoOtherPage}
 use Rattle.core_state.specs.Certain.{SlotOn, Knows}
 use Rattle.core_state.specs.Committing.{Point}
 use Rattle.core_state.proofs.Calls.{true_false}
 use Rattle.core_state.proofs.Frames.{Nowhere, none_lost, unchanged_frames}
-use Rattle.core_state.proofs.Knowing.{present, knows_frame, certain_frame}
+use Rattle.core_state.proofs.Keeping.{knows_keep}
+use Rattle.core_state.proofs.Knowing.{present, present_might, knows_frame, certain_frame}
 use Rattle.core_state.proofs.Places.{page_place, slot_low}
 use Rattle.core_state.proofs.Chosen.{chosen_pool, first_candidate, chosen_held, chosen_group, chosen_same}
 use Rattle.core_state.proofs.Chosen.{chosen_certain, twin_alike, chosen_next, chosen_page}
@@ -60,6 +61,9 @@ module _ (setting : Setting) (first : Kept) (later : List Kept) (disk : Disk)
     (tells : Tells disk) (point : Point) (same : Unchanged disk point.disk)
     (lack_page lack_uber : ℕ)
     (read : AreRead setting.shape silent disk uber entries lack_page lack_uber point) where
+  keeps : Keeps setting first later (present disk)
+  keeps = knows_keep setting first later disk knows (present disk) (present_might setting.shape disk lawful)
+
   abbrev kept : Kept
   kept = (chosen_held setting first later disk knows lawful silent within no_other device uber entries chosen).0.kept
 
@@ -131,7 +135,7 @@ module _ (setting : Setting) (first : Kept) (later : List Kept) (disk : Disk)
       by true fails = inr fails
       by false works = ⊎_elim
           (λ same.
-          let candidate = first_candidate setting first later disk knows lawful silent within no_other device uber
+          let candidate = first_candidate setting first later (present disk) keeps silent within device uber
           entries chosen on (below_first (inl same) on in_use) works in
           absurd (read.none on candidate.0 first.entries in_use lacks candidate.2
           (candidate.1 ∙ sym (ap (λ (k : Kept). k.uber.group) same) ∙ sym group)))
@@ -148,7 +152,7 @@ module _ (setting : Setting) (first : Kept) (later : List Kept) (disk : Disk)
         (λ d x nowhere. absurd nowhere) knows;
     listed = (chosen_held setting first later disk knows lawful silent within no_other device uber entries chosen).0.listed;
     same = chosen_same setting first later disk knows lawful silent within no_other device uber entries chosen;
-    pool_is = chosen_pool setting first later disk knows lawful silent within no_other device uber entries chosen;
+    pool_is = chosen_pool setting first later (present disk) keeps silent within device uber entries chosen;
     known = certain_frame Nowhere none_lost setting disk point.disk (first ∷ later) uber (unchanged_frames same)
         (λ k d x bytes listed asks nowhere. absurd nowhere)
         (chosen_certain setting first later disk knows lawful silent within no_other device uber entries chosen);

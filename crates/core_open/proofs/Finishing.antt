@@ -73,7 +73,7 @@ pub record IsOpen (old new : Disk) (opened : Opened) : Type 0 where
   pub writes : WritesInOrder old new opened.silent opened.uber
 
 -- What is known of a pool that wasn't.
-pub record IsRefused (old new : Disk) (why : OpenWhy) : Type 0 where
+pub record FailsToOpen (old new : Disk) (why : OpenWhy) : Type 0 where
   pub cause : IsOpenCause old new why
   pub untouched : LeavesBank why old new
   pub others : LeavesOthers old new
@@ -190,14 +190,14 @@ module _ (found : Found) (old mid new : Disk) (lawful : Lawful old) (same_found 
 
   -- Too many went out among the writes.
   refused_writes : (out : ℕ) → WritesFound found mid new out (Err (reason.TooManyFailed out))
-      → IsRefused old new (reason.TooManyFailed out)
+      → FailsToOpen old new (reason.TooManyFailed out)
   refused_writes out writes = by writes.ends.2
     where
       by : StopsSpreading found.uber found.entries.items writes.lack_page found.lacks_uber
           (point_of writes.asked_out writes.asked) (point_of out new)
           ⊎ StopsRenewing found.uber found.entries.items writes.lack_page found.lacks_uber
           (point_of writes.asked_out writes.asked) (point_of out new)
-          → IsRefused old new (reason.TooManyFailed out)
+          → FailsToOpen old new (reason.TooManyFailed out)
       by (inl stops) =
           let later = later_trans writes.same.goes_on.later stops.brought.spares.later in
           let went = went_spread found old mid new lawful same_found found_in right silent_failed fits later out
@@ -235,7 +235,7 @@ module _ (found : Found) (old mid new : Disk) (lawful : Lawful old) (same_found 
 
   -- A pool that was not opened.
   pub refused_promises : (why : OpenWhy) → OpensFound found mid new (Err why)
-      → IsRefused old new why
+      → FailsToOpen old new why
   refused_promises reason.NotPool refuses = absurd refuses
   refused_promises (reason.Limit group) refuses =
       let same = unchanged_then same_found refuses.0 in
@@ -260,7 +260,7 @@ module _ (found : Found) (old mid new : Disk) (lawful : Lawful old) (same_found 
   -- Either way.
   pub promises : (result : Result Opened OpenWhy) → IsIndexFor found.uber found.entries.items
       → OpensFound found mid new result
-      → IfOk result (IsOpen old new) × IfErr result (IsRefused old new)
+      → IfOk result (IsOpen old new) × IfErr result (FailsToOpen old new)
   promises (Ok opened) index opens = (opened_is opened index opens, tt)
   promises (Err why) index opens = (tt, refused_promises why opens)
 
@@ -273,8 +273,8 @@ known (Ok opened) tells told = tells opened told
 known (Err why) tells told = tt
 
 pub refused : {P : OpenWhy → Type 0} {old new : Disk} (result : Result Opened OpenWhy)
-    → ((why : OpenWhy) → IsRefused old new why → P why)
-    → IfErr result (IsRefused old new)
+    → ((why : OpenWhy) → FailsToOpen old new why → P why)
+    → IfErr result (FailsToOpen old new)
     → IfErr result P
 refused (Ok opened) tells told = tt
 refused (Err why) tells told = tells why told
@@ -299,7 +299,7 @@ pub opens_promises : {found : Found} {old mid : Disk} (new : Disk) (result : Res
     → FitsOpening old found
     → IsIndexFor found.uber found.entries.items
     → OpensFound found mid new result
-    → IfOk result (IsOpen old new) × IfErr result (IsRefused old new)
+    → IfOk result (IsOpen old new) × IfErr result (FailsToOpen old new)
 opens_promises {found} {old} {mid} new result lawful same found_in right silent fits index opens =
     promises found old mid new lawful same found_in right silent (fits_then found old mid same fits) result index
     opens
@@ -315,7 +315,7 @@ untouched_all (Err reason.NoMemory) old new same = same
 
 -- Either way no other device is touched.
 pub others_of : {old new : Disk} (result : Result Opened OpenWhy) → IfOk result (IsOpen old new)
-    → IfErr result (IsRefused old new)
+    → IfErr result (FailsToOpen old new)
     → LeavesOthers old new
 others_of (Ok opened) opens refuses = opens.others
 others_of (Err why) opens refuses = refuses.others

@@ -15,13 +15,13 @@ use Rattle.uberblock_ring.specs.Uberblock.{Uber}
 use Rattle.uberblock_ring.specs.Valid.{IsRightUber}
 use Rattle.core_state.specs.Index.{layout_of, block_end}
 use Rattle.reconstruct.specs.Rows.{sectors_for}
+use Rattle.core_state.proofs.Births.{births_between}
 use Rattle.core_state.proofs.Places.{right_widths}
 use Rattle.core_blocks.specs.Blocks.{layout_run}
 use Rattle.core_blocks.specs.Runs.{AreClear}
 use Rattle.core_client.specs.Pool.{IsInPool}
 use Rattle.shadow_write.specs.Band.{IsFrontOf}
 use Rattle.core_client.proofs.Places.{one_sector, widths_of, close_to_end}
-use Rattle.core_open.proofs.BlockSpans.{births_between}
 
 -- A block takes at least the sectors that it fills.
 pub total_few : (layout : Layout) → total_of layout ≤ allocated_of layout

@@ -46,3 +46,4 @@ pub mod Growing
 pub mod Answered
 pub mod GoingOn
 pub mod Adding
+pub mod SameBirths

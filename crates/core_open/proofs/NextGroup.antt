@@ -9,11 +9,10 @@ use Rattle.reflow_mark.specs.declared.reflow.Reflow.{Reflow}
 use Rattle.reflow_mark.specs.Reflow.{Expands, IsRightReflow, at_rest, sectors_of}
 use Rattle.shadow_write.specs.Band.{IsWidening}
 use Rattle.block_record.specs.declared.entry.IndexEntry.{IndexEntry}
-use Rattle.block_record.specs.Bytes.{IsDigest}
 use Rattle.block_record.specs.Page.{index_page, IsIndex}
 use Rattle.block_table.specs.Table.{IsTable}
 use Rattle.block_table.proofs.Tables.{few_entries}
-use Rattle.uberblock_ring.specs.Devices.{count_below, count_of}
+use Rattle.uberblock_ring.specs.Devices.{count_of}
 use Rattle.uberblock_ring.specs.Uberblock.{Uber}
 use Rattle.uberblock_ring.specs.Valid.{IsRightUber}
 use Rattle.uberblock_ring.proofs.Digest.{sha256_is_digest}

@@ -10,7 +10,7 @@ use Rattle.core_open.specs.Holds.{HoldsImage, shape_of}
 
 -- The bank has these devices, as many sectors of each or more, and maybe further devices. What a crash leaves for
 -- certain on them it leaves here too, and no sector of theirs could hold anything else.
-pub record BeginsWith (old new : Disk) : Type 0 where
+pub record ExtendsBank (old new : Disk) : Type 0 where
   pub devices : old.devices ≤ new.devices
   pub sectors : old.sectors ≤ new.sectors
   pub leaves : (device device_sector : ℕ) (bytes : List ℕ)
@@ -27,7 +27,7 @@ setting_on setting disk = record setting { shape = shape_of disk }
 -- Its further devices show no uberblock of the pool, and no other pool is named by more devices outside than are left
 -- of this one. It tells what it holds, and no page in that is another's by chance.
 pub record MayBeAdded (setting : Setting) (groups : List Kept) (old new : Disk) : Type 0 where
-  pub begins : BeginsWith old new
+  pub begins : ExtendsBank old new
   pub pool : setting.reach ≤ old.devices
   pub blank : (image : Image) (device : ℕ) (uber : Uber) → MightStand (shape_of new) new new.clock image
       → old.devices ≤ device → Shows (shape_of new) image device uber → uber.pool ≢ setting.pool

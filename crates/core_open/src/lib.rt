@@ -3,10 +3,10 @@
 //! Creating gives each device an empty ring and the first uberblock: read `create`. An opening
 //! reads the rings once; the devices that answered choose a pool, and of that pool the greatest
 //! group that has a candidate is brought to those that lack it and renewed: read `open`, with
-//! `specs/Opens.antt`. A look chooses in the same way and writes nothing: read `look`. `open_pool` opens a pool and takes
-//! the sectors of its blocks: read `specs/Pool.antt` and `specs/HoldsGroup.antt`, then `specs/Opening.antt`. What a stop
-//! leaves may be opened again: `specs/Stopped.antt`. Stands on `core_commit` and `core_blocks`, and on `core_state`, whose
-//! `specs/Create.antt` says what a new pool is, and `specs/Choosing.antt` what is chosen.
+//! `specs/Opens.antt`. A look chooses in the same way and writes nothing: read `look`. `open_pool` opens a pool and
+//! takes the sectors of its blocks: read `specs/Pool.antt` and `specs/HoldsGroup.antt`, then `specs/Opening.antt`. What
+//! a stop leaves may be opened again: `specs/Stopped.antt`. Stands on `core_commit` and `core_blocks`, and on
+//! `core_state`, whose `specs/Create.antt` says what a new pool is, and `specs/Choosing.antt` what is chosen.
 #![tactic(auto)]
 
 mod candidates;

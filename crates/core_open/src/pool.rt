@@ -8,8 +8,8 @@ use std::marker::Model;
 use uberblock_ring::{DeviceSet, Uber};
 
 /// A pool of which no call is under way: the last answered group's uberblock, the blocks with the sectors
-/// that they take, the devices that are out, which are not called again, and the front: how far, in sectors, a copy to a
-/// new width has come since.
+/// that they take, the devices that are out, which are not called again, and the front: how far, in sectors, a copy to
+/// a new width has come since.
 #[derive(Drop)]
 pub struct Pool {
     pub(crate) uber: Uber,

@@ -44,6 +44,48 @@ gives_same shape image one other entries device area count digest gives = record
     page = ap (λ (a : ℕ). page_on image (record one { area = a }) device) area
         ∙ ap (λ (c : ℕ). page_on image (record one { area = other.area; count = c }) device) count
 
+module _ (setting : Setting) (first : Kept) (later : List Kept) (image : Image)
+    (keeps : Keeps setting first later image) (silent : ℕ)
+    (within : (device : ℕ) → device < first.uber.reflow.to → has_device silent device ≡ true
+    → has_device setting.failed device ≡ true)
+    (shower : ℕ) (uber : Uber) (entries : List IndexEntry)
+    (chosen : IsChosen setting.shape silent image shower uber entries) where
+  pub chosen_pool : uber.pool ≡ setting.pool
+  chosen_pool = pool_chosen setting first later image keeps silent within uber.pool chosen.pool
+
+  -- A device of the first group that hasn't failed shows a candidate of it.
+  pub first_candidate : (device : ℕ) → device < first.uber.reflow.to → has_device setting.failed device ≡ false
+      → (shown : Uber) × (shown.group ≡ first.uber.group)
+      × IsCandidate setting.shape silent uber.pool image device shown first.entries
+  first_candidate device below works =
+      let there = keeps.there.each device below works in
+      let alike = shown_alike setting first later image device there.0 first keeps (contains_head first later)
+      (omega arith) there.2.shows there.2.pool_is there.1 in (
+        there.0,
+        there.1,
+        record {
+          shows = there.2.shows;
+          pool_is = there.2.pool_is ∙ sym chosen_pool;
+          room = there.2.room;
+          giver = device;
+          giver_reads = reads_left setting first later image keeps silent within device below works;
+          gives = gives_same setting.shape image first.uber there.0 first.entries device
+              (sym (ap (λ (u : Uber). u.area) alike)) (sym (ap (λ (u : Uber). u.count) alike))
+              (sym (ap (λ (u : Uber). u.digest) alike)) (keeps.there.pages device below works);
+          fitting = there.2.fitting;
+        },
+      )
+
+  -- So the chosen group is not below the first one, with such a device.
+  pub above_first : (device : ℕ) → device < first.uber.reflow.to → has_device setting.failed device ≡ false
+      → first.uber.group ≤ uber.group
+  above_first device below works =
+      let candidate = first_candidate device below works in
+      let group = candidate.1 in
+      ⊎_elim (λ less. omega (arith, less, group)) (λ same. let number = same.0 in omega (arith, number, group))
+      (chosen.first device candidate.0 first.entries
+      (reads_left setting first later image keeps silent within device below works) candidate.2)
+
 module _ (setting : Setting) (first : Kept) (later : List Kept) (disk : Disk)
     (knows : Knows setting first later disk) (lawful : Lawful disk) (silent : ℕ)
     (within : (device : ℕ) → device < first.uber.reflow.to → has_device silent device ≡ true
@@ -57,8 +99,8 @@ module _ (setting : Setting) (first : Kept) (later : List Kept) (disk : Disk)
   keeps : Keeps setting first later image
   keeps = knows_keep setting first later disk knows image (present_might setting.shape disk lawful)
 
-  pub chosen_pool : uber.pool ≡ setting.pool
-  chosen_pool = pool_chosen setting first later image keeps silent within uber.pool chosen.pool
+  pool_is : uber.pool ≡ setting.pool
+  pool_is = chosen_pool setting first later image keeps silent within device uber entries chosen
 
   -- A candidate among devices that are read is one among all.
   pub candidate_all : (on : ℕ) (shown : Uber) (listed : List IndexEntry)
@@ -66,7 +108,7 @@ module _ (setting : Setting) (first : Kept) (later : List Kept) (disk : Disk)
       → IsCandidate setting.shape 0 setting.pool image on shown listed
   candidate_all on shown listed candidate = record {
     shows = candidate.shows;
-    pool_is = candidate.pool_is ∙ chosen_pool;
+    pool_is = candidate.pool_is ∙ pool_is;
     room = candidate.room;
     giver = candidate.giver;
     giver_reads = none_in candidate.giver;
@@ -74,39 +116,12 @@ module _ (setting : Setting) (first : Kept) (later : List Kept) (disk : Disk)
     fitting = candidate.fitting;
   }
 
-  -- The first group has a candidate on each device that may not fail.
-  pub first_candidate : (on : ℕ) → on < first.uber.reflow.to → has_device setting.failed on ≡ false
-      → (shown : Uber) × (shown.group ≡ first.uber.group)
-      × IsCandidate setting.shape silent uber.pool image on shown first.entries
-  first_candidate on below works =
-      let there = keeps.there.each on below works in
-      let alike = shown_alike setting first later image on there.0 first keeps (contains_head first later)
-      (omega arith) there.2.shows there.2.pool_is there.1 in (
-        there.0,
-        there.1,
-        record {
-          shows = there.2.shows;
-          pool_is = there.2.pool_is ∙ sym chosen_pool;
-          room = there.2.room;
-          giver = on;
-          giver_reads = reads_left setting first later image keeps silent within on below works;
-          gives = gives_same setting.shape image first.uber there.0 first.entries on
-              (sym (ap (λ (u : Uber). u.area) alike)) (sym (ap (λ (u : Uber). u.count) alike))
-              (sym (ap (λ (u : Uber). u.digest) alike)) (keeps.there.pages on below works);
-          fitting = there.2.fitting;
-        },
-      )
-
   works_below : knows.row.device < first.uber.reflow.to
   works_below = below_first setting first later knows.row.device knows.row.widths knows.row.below
 
-  pub chosen_above : first.uber.group ≤ uber.group
-  chosen_above =
-      let candidate = first_candidate knows.row.device works_below knows.row.works in
-      let group = candidate.1 in
-      ⊎_elim (λ less. omega (arith, less, group)) (λ same. let number = same.0 in omega (arith, number, group))
-      (chosen.first knows.row.device candidate.0 first.entries
-      (reads_left setting first later image keeps silent within knows.row.device works_below knows.row.works) candidate.2)
+  above : first.uber.group ≤ uber.group
+  above = above_first setting first later image keeps silent within device uber entries chosen knows.row.device
+      works_below knows.row.works
 
   -- A candidate from the first group on is of one of the groups, with its index.
   pub candidate_is : (on : ℕ) (shown : Uber) (listed : List IndexEntry) → first.uber.group ≤ shown.group
@@ -130,7 +145,7 @@ module _ (setting : Setting) (first : Kept) (later : List Kept) (disk : Disk)
       )
 
   pub chosen_held : (held : IsKept setting image (first ∷ later) uber) × (entries ≡ held.kept.entries)
-  chosen_held = candidate_is device uber entries chosen_above chosen.candidate
+  chosen_held = candidate_is device uber entries above chosen.candidate
 
   abbrev kept : Kept
   kept = chosen_held.0.kept
@@ -153,14 +168,14 @@ module _ (setting : Setting) (first : Kept) (later : List Kept) (disk : Disk)
   }
 
   pub chosen_certain : IsCertain setting disk (first ∷ later) uber
-  chosen_certain = knows.only device uber chosen_able chosen_pool chosen_above
+  chosen_certain = knows.only device uber chosen_able pool_is above
 
   pub chosen_sound : IsSound setting kept
   chosen_sound = record {
     uber = uber;
     alike = alike;
     right = chosen.candidate.shows.valid.right;
-    pool_is = sym (ap (λ (u : Uber). u.pool) alike) ∙ chosen_pool;
+    pool_is = sym (ap (λ (u : Uber). u.pool) alike) ∙ pool_is;
     room = (let rows = ap (λ (u : Uber). u.reflow.rows) alike in let room = chosen.candidate.room in
         omega (arith, room, rows));
     index = chosen_held.0.listing.index;
@@ -178,8 +193,8 @@ module _ (setting : Setting) (first : Kept) (later : List Kept) (disk : Disk)
       → IsCandidate setting.shape silent uber.pool image on twin listed
       → AreAlike twin uber
   twin_alike on twin listed group candidate =
-      let above : first.uber.group ≤ twin.group = (let low = chosen_above in omega (arith, low, group)) in
-      let found = candidate_is on twin listed above candidate in
+      let low : first.uber.group ≤ twin.group = omega (arith, above, group) in
+      let found = candidate_is on twin listed low candidate in
       let number : twin.group ≡ found.0.kept.uber.group = ap (λ (u : Uber). u.group) found.0.alike in
       let same : found.0.kept ≡ kept = same_group (first ∷ later) found.0.kept kept keeps.ascending
       found.0.listed chosen_held.0.listed (sym number ∙ group ∙ chosen_group) in

@@ -25,3 +25,4 @@ pub mod Resting
 pub mod Outs
 pub mod SpotReads
 pub mod Below
+pub mod Births

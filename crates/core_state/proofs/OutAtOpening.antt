@@ -1,6 +1,6 @@
 -- Where an image keeps groups, whichever device of the first one is out at opening has failed.
 use Rattle.std.proofs.Common.{◌≡◌, inl, inr, ⊎_elim, ℕ, ◌+◌, ◌<◌, ◌≤◌, List, ◌∷◌, Bool, true, false, refl, sym, ◌∙◌, ap}
-use Rattle.std.proofs.Common.{subst, arith}
+use Rattle.std.proofs.Common.{arith}
 use Rattle.std.proofs.lemmas.List.Elements.{All-contains}
 use Rattle.bank_trait.specs.Disk.{Image}
 use Rattle.block_record.specs.declared.entry.IndexEntry.{IndexEntry}
@@ -10,10 +10,8 @@ use Rattle.core_state.specs.Shown.{IsCandidate}
 use Rattle.core_state.specs.Choosing.{IsBlank, IsChosen, IsLeftBehind, IsListedOut, IsOutAtOpening}
 use Rattle.core_state.specs.Keeps.{IsKept, IsNextOf, Kept, Keeps, Setting}
 use Rattle.core_state.proofs.Calls.{true_false}
-use Rattle.core_state.proofs.Chosen.{gives_same}
-use Rattle.core_state.proofs.Listed.{contains_cases, contains_head}
-use Rattle.core_state.proofs.PoolChosen.{pool_chosen, reads_left}
-use Rattle.core_state.proofs.Reader.{shown_alike}
+use Rattle.core_state.proofs.Chosen.{above_first, chosen_pool, first_candidate}
+use Rattle.core_state.proofs.Listed.{contains_cases}
 use Rattle.core_state.proofs.Widths.{first_within}
 
 -- A group is at most two after the one that it is next of.
@@ -28,47 +26,14 @@ module _ (setting : Setting) (first : Kept) (later : List Kept) (image : Image)
     → has_device setting.failed device ≡ true)
     (shower : ℕ) (uber : Uber) (entries : List IndexEntry)
     (chosen : IsChosen setting.shape silent image shower uber entries) where
-  chosen_pool : uber.pool ≡ setting.pool
-  chosen_pool = pool_chosen setting first later image keeps silent within uber.pool chosen.pool
+  pool_is : uber.pool ≡ setting.pool
+  pool_is = chosen_pool setting first later image keeps silent within shower uber entries chosen
 
-  -- A device of the first group that hasn't failed shows a candidate of it.
-  first_candidate : (device : ℕ) → device < first.uber.reflow.to → has_device setting.failed device ≡ false
-      → (shown : Uber) × (shown.group ≡ first.uber.group)
-      × IsCandidate setting.shape silent uber.pool image device shown first.entries
-  first_candidate device below works =
-      let there = keeps.there.each device below works in
-      let alike = shown_alike setting first later image device there.0 first keeps (contains_head first later)
-      (omega arith) there.2.shows there.2.pool_is there.1 in (
-        there.0,
-        there.1,
-        record {
-          shows = there.2.shows;
-          pool_is = there.2.pool_is ∙ sym chosen_pool;
-          room = there.2.room;
-          giver = device;
-          giver_reads = reads_left setting first later image keeps silent within device below works;
-          gives = gives_same setting.shape image first.uber there.0 first.entries device
-              (sym (ap (λ (u : Uber). u.area) alike)) (sym (ap (λ (u : Uber). u.count) alike))
-              (sym (ap (λ (u : Uber). u.digest) alike)) (keeps.there.pages device below works);
-          fitting = there.2.fitting;
-        },
-      )
-
-  -- So the chosen group is not below the first one, with such a device,
-  above_first : (device : ℕ) → device < first.uber.reflow.to → has_device setting.failed device ≡ false
-      → first.uber.group ≤ uber.group
-  above_first device below works =
-      let candidate = first_candidate device below works in
-      let group = candidate.1 in
-      ⊎_elim (λ less. omega (arith, less, group)) (λ same. let number = same.0 in omega (arith, number, group))
-      (chosen.first device candidate.0 first.entries
-      (reads_left setting first later image keeps silent within device below works) candidate.2)
-
-  -- and at most two above it.
+  -- The chosen group is at most two above the first one.
   near_first : first.uber.group ≤ uber.group → uber.group ≤ first.uber.group + 2
   near_first above =
       let held : IsKept setting image (first ∷ later) uber =
-      keeps.only shower uber above chosen.candidate.shows chosen_pool in
+      keeps.only shower uber above chosen.candidate.shows pool_is in
       let number : uber.group ≡ held.kept.uber.group = ap (λ (u : Uber). u.group) held.alike in
       ⊎_elim
       (λ same. let is = ap (λ (k : Kept). k.uber.group) same in omega (arith, number, is))
@@ -77,29 +42,37 @@ module _ (setting : Setting) (first : Kept) (later : List Kept) (image : Image)
       (contains_cases first later held.kept held.listed)
 
   module _ (device : ℕ) (below : device < first.uber.reflow.to) where
+    works_candidate : has_device setting.failed device ≡ false
+        → (shown : Uber) × (shown.group ≡ first.uber.group)
+        × IsCandidate setting.shape silent uber.pool image device shown first.entries
+    works_candidate = first_candidate setting first later image keeps silent within shower uber entries chosen device below
+
+    works_above : has_device setting.failed device ≡ false → first.uber.group ≤ uber.group
+    works_above = above_first setting first later image keeps silent within shower uber entries chosen device below
+
     -- Such a device isn't left behind,
     not_behind : has_device setting.failed device ≡ false → IsLeftBehind setting.shape image uber device → ⊥
     not_behind works left =
-        let candidate = first_candidate device below works in
+        let candidate = works_candidate works in
         let group = candidate.1 in
-        let near = near_first (above_first device below works) in
+        let near = near_first (works_above works) in
         let behind = left.behind candidate.0 candidate.2.shows candidate.2.pool_is in
         omega (arith, group, near, behind)
 
     -- nor blank,
     not_blank : has_device setting.failed device ≡ false → IsBlank setting.shape image uber device → ⊥
     not_blank works blank =
-        let candidate = first_candidate device below works in
+        let candidate = works_candidate works in
         blank.none candidate.0 candidate.2.shows candidate.2.pool_is
 
     -- nor listed as out,
     not_listed : has_device setting.failed device ≡ false → IsListedOut setting.shape silent image uber device → ⊥
     not_listed works listed =
         let group = listed.group in
-        let above = above_first device below works in
+        let above = works_above works in
         let held : IsKept setting image (first ∷ later) listed.twin =
         keeps.only listed.other listed.twin (omega (arith, group, above)) listed.candidate.shows
-        (listed.candidate.pool_is ∙ chosen_pool) in
+        (listed.candidate.pool_is ∙ pool_is) in
         true_false (sym (held.out device listed.out) ∙ works)
 
     -- nor missing.

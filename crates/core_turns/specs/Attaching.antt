@@ -1,5 +1,6 @@
 -- Attaches, turn by turn.
-use Rattle.std.specs.Prelude.{◌≡◌, ◌⊎◌, ℕ, ◌+◌, ◌-◌, ◌<◌, ◌≤◌, List, [], ◌∷◌, get_or, Option, Some, None, ⊤, true, false}
+use Rattle.std.specs.Prelude.{◌≡◌, ◌⊎◌, ℕ, ◌+◌, ◌-◌, ◌<◌, ◌≤◌, List, [], ◌∷◌, get_or, Option, Some, None, ⊤, true}
+use Rattle.std.specs.Prelude.{false}
 use Rattle.bank_trait.specs.Causes.{FaultCounted}
 use Rattle.bank_trait.specs.Disk.{Disk, Later, Unchanged}
 use Rattle.bank_trait.specs.Regions.{TouchesOnly}
@@ -94,7 +95,8 @@ HoldsAttach setting last begun disk (Signs run because) = ⊤
 
 -- ---- the first turn
 
--- Why no device may be attached: the pool expands; a device of it is out; or there is none to attach, or no room for one.
+-- Why no device may be attached: the pool expands; a device of it is out; or there is none to attach, or no room for
+-- one.
 abbrev pub IsNotAttachable : Core → ℕ → Answer → Type 0
 IsNotAttachable core devices (answer.Expanding to) = Expands core.pool.uber.reflow
     × (to ≡ core.pool.uber.reflow.to)
@@ -264,7 +266,8 @@ abbrev pub IsMoreAttach : Core → Disk → Turn AttachRun → Type 0
 IsMoreAttach core disk (More run) = IsAttachRunOf core run × HasNewDevice disk run
 IsMoreAttach core disk other = ⊤
 
--- What each turn of an attach does: as each turn, but that the device behind the pool's may be called too, and may join.
+-- What each turn of an attach does: as each turn, but that the device behind the pool's may be called too, and may
+-- join.
 pub record AttachGoesOn (before after : CoreState) : Type 0 where
   pub parity : after.core.pool.uber.parity ≡ before.core.pool.uber.parity
   pub reach : (after.core.reach ≡ before.core.reach) ⊎ (after.core.reach ≡ before.core.reach + 1)

@@ -43,8 +43,8 @@ hold_for before chosen actor = record {
   kind = Exclusive;
 }
 
--- The hold begins below the front, if it has a sector, and is the only one there that is held alone; none is where it has
--- none. Nobody shares its sectors.
+-- The hold begins below the front, if it has a sector, and is the only one there that is held alone; none is where it
+-- has none. Nobody shares its sectors.
 pub record IsHeldAlone (front : ℕ) (holds : List Hold) (hold : Hold) : Type 0 where
   pub low : HasSectors hold → hold.lo < front
   pub held : (HasSectors hold × Contains holds hold × (alone_below front holds ≡ 1))

@@ -40,8 +40,8 @@ pub record IsJobOf (core : Core) (run : CopyRun) : Type 0 where
   pub hold_is : run.hold ≡ hold_for_job core.pool.uber.reflow run.job.job run.hold.actor
   pub read : core.pool.out ≡ 0 → HoldsRead run.job
 
--- The job goes on in a pool of this reflow and front. While no device is out, it has come to its present sector with each
--- cell that is right at the front: one whose sector is behind that stands at its target.
+-- The job goes on in a pool of this reflow and front. While no device is out, it has come to its present sector with
+-- each cell that is right at the front: one whose sector is behind that stands at its target.
 pub record CopiesCells (reflow : Reflow) (done : ℕ) (run : JobRun) (point : Point) : Type 0 where
   pub goes : GoesOnIn reflow done run
   pub each : point.out ≡ 0 → (cell : Cell) → IsClose reflow cell → cell.sector < cell.row_end

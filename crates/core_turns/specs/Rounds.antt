@@ -75,7 +75,8 @@ StepsCopy before (Copies run) after (More (Rests actor next)) =
     × EndsJob before.core after.core run)
     ⊎ ((HasTooManyOut before.core → ⊥) × DropsJob before.core after.core run))
 StepsCopy before (Copies run) after (Done given) = (after.disk ≡ before.disk)
-    × DropsJob before.core after.core run × HasTooManyOut before.core × (given ≡ answer.TooManyFailed before.core.pool.out)
+    × DropsJob before.core after.core run × HasTooManyOut before.core
+    × (given ≡ answer.TooManyFailed before.core.pool.out)
 StepsCopy before (Commits run) after (More (Commits next)) = StepsCommit before run after (More next)
 StepsCopy before (Commits run) after (More (Rests actor made)) = (before.core.committing ≡ Some actor)
     × ((group : ℕ) × (made ≡ Some group) × AnswersGroup before run after group)

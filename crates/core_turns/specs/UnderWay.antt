@@ -64,8 +64,8 @@ IsCallOfCore core (Putting run) = IsPutOf core run
 IsCallOfCore core (Reading run) = IsReadKind run.kind × IsGetOf core run
 IsCallOfCore core (Copying run) = IsJobOf core run
 
--- What a call has written or read so far is its block's, of these bytes: those that a put is handed, those that a read is
--- to find. A job has copied the cells that are right as far as it has come.
+-- What a call has written or read so far is its block's, of these bytes: those that a put is handed, those that a read
+-- is to find. A job has copied the cells that are right as far as it has come.
 abbrev pub HoldsCall : CoreState → List ℕ → HoldingCall → Type 0
 HoldsCall state content (Putting run) = HoldsPut content state run
 HoldsCall state content (Reading run) = HoldsGet content state run
@@ -118,8 +118,8 @@ pub record LiesInPool (core : Core) (kept : Kept) : Type 0 where
 
 -- The group after the last answered one is under way: it has come so far, and no sector of its blocks is free or
 -- a put's.
-pub record CommitStands (setting : Setting) (last : Kept) (begun : List Kept) (calls : List HoldingCall) (run : CommitRun)
-    (state : CoreState) : Type 0 where
+pub record CommitStands (setting : Setting) (last : Kept) (begun : List Kept) (calls : List HoldingCall)
+    (run : CommitRun) (state : CoreState) : Type 0 where
   pub next : Kept
   pub begun_is : begun ≡ next ∷ []
   pub of : IsCommitOf state.core run
@@ -149,8 +149,8 @@ shown_of begun None = begun
 shown_of begun (Some run) = shown_in begun run.stage
 
 -- Between two turns: the last answered group is certain on the devices, and what is known of one that was begun
--- after it; the map is held; each call under way goes on as it should, with the bytes of its actor's block. No sector of
--- the last group's blocks is free or a put's.
+-- after it; the map is held; each call under way goes on as it should, with the bytes of its actor's block. No sector
+-- of the last group's blocks is free or a put's.
 pub record Stands (setting : Setting) (last : Kept) (begun : List Kept) (map : Map) (contents : ℕ → List ℕ)
     (calls : List HoldingCall) (commit : Option CommitRun) (state : CoreState) : Type 0 where
   pub groups : GroupsStand setting last begun calls commit state

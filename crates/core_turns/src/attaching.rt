@@ -139,8 +139,6 @@ impl Core {
             (at_disk self.new (B.disk bank.new)) result }
         ensures of { IsMoreAttach self.new (B.disk bank.new) result }
     {
-        // That the core is one is known by a call of it.
-        let _ = self.reflow();
         if self.has_too_many_out() {
             return self.stop_attach(too_many(self.out));
         }

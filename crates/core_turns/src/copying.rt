@@ -61,7 +61,8 @@ impl Core {
     /// The first turn of a round of a copy: begins the job that is due, if one is, and holds its sectors alone. None is
     /// begun while a device is out. Where memory is short nothing is held.
     pub fn job_begin(&mut self, alloc: Global, actor: u8) -> JobBegin
-        ensures { BeginsJob self.old self.new actor result }
+        ensures begins { BeginsJob self.old self.new actor result }
+        ensures is { IsCore self.old }
     {
         if self.has_too_many_out() {
             return JobBegin::Done(too_many(self.out));

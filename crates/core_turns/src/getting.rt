@@ -70,7 +70,8 @@ impl GetRun {
         self.read.is_done()
     }
 
-    /// What is to be solved, once all columns were read: the columns are shared. Nothing where memory is exhausted for that.
+    /// What is to be solved, once all columns were read: the columns are shared. Nothing where memory is exhausted for
+    /// that.
     pub fn to_solve(&mut self, alloc: Global) -> Option<ToSolve>
         requires len { sectors_for self.old.entry.len ≡ self.old.read.layout.sectors }
         ensures same { self.new ≡ self.old }
@@ -174,8 +175,8 @@ impl Core {
         self.read_next_column(bank, run)
     }
 
-    /// The last turn of a read: tells its block, once it was solved, or that memory was exhausted for that. What was solved
-    /// is taken from it.
+    /// The last turn of a read: tells its block, once it was solved, or that memory was exhausted for that. What was
+    /// solved is taken from it.
     pub fn get_end(&mut self, run: &mut GetRun) -> Answer
         requires kind { IsReadKind run.old.kind }
         requires of { IsGetOf self.old run.old }
@@ -221,14 +222,12 @@ impl Core {
         requires bank { HasBankOf self.old (B.disk bank.old) }
         ensures reads { ReadsTurn (at_disk self.old (B.disk bank.old)) run.old
             (at_disk self.new (B.disk bank.new)) (turn_with run.new result) }
-        ensures place { IsAtColumn run.old.read }
+        ensures place { result ≡ None → IsAtColumn run.old.read }
         ensures front { IsFrontOf self.old.pool.uber.reflow self.old.pool.done }
         ensures unchanged { Unchanged (B.disk bank.old) (B.disk bank.new) }
         ensures out { OnlyFailedGoOut (point_of self.old.pool.out (B.disk bank.old))
             (point_of self.new.pool.out (B.disk bank.new)) }
     {
-        // That its column is one of its row is known by a call of it.
-        let _ = run.is_read();
         if self.has_too_many_out() {
             self.locks.end(run.hold);
             return Some(too_many(self.out));

@@ -110,7 +110,8 @@ impl Core {
 
     /// Whether more devices are out than there are parities. Each turn says so then.
     pub fn has_too_many_out(&self) -> bool
-        ensures { IsTrue result ↔ (self.now.pool.uber.parity < count_of self.now.pool.out) }
+        ensures many { IsTrue result ↔ (self.now.pool.uber.parity < count_of self.now.pool.out) }
+        ensures is { IsCore self.now }
     {
         self.out.exceeds(self.uber.parity())
     }

@@ -66,8 +66,6 @@ impl Core {
         ensures begins { BeginsRound self.old self.new actor result }
         ensures of { IsMoreRound self.new result }
     {
-        // That the core is one is known by a call of it.
-        let _ = self.reflow();
         match self.job_begin(alloc, actor) {
             JobBegin::More(run) => Turn::More(CopyRound::Copies(run)),
             JobBegin::Busy { by } => Turn::Busy { by },
@@ -93,8 +91,6 @@ impl Core {
             (at_disk self.new (B.disk bank.new)) result }
         ensures of { IsMoreRound self.new result }
     {
-        // That the core is one is known by a call of it.
-        let _ = self.reflow();
         match round {
             CopyRound::Rests { actor, made: _ } => match self.begin_round(alloc, actor) {
                 Turn::Busy { by: _ } => Turn::More(CopyRound::Rests { actor, made: None }),
@@ -112,9 +108,10 @@ impl Core {
         ensures steps { StepsCopy (at_disk self.old (B.disk bank.old)) (CopiesOf run)
             (at_disk self.new (B.disk bank.new)) result }
         ensures of { IsMoreRound self.new result }
+        ensures is { IsCore self.old }
     {
         let actor = run.actor();
-        if !self.out().is_empty() {
+        if !self.out.is_empty() {
             return match self.job_give_up(run) {
                 Some(answer) => Turn::Done(answer),
                 None => Turn::More(CopyRound::Rests { actor, made: None }),
@@ -134,6 +131,7 @@ impl Core {
         ensures steps { StepsCopy (at_disk self.old (B.disk bank.old)) (CommitsOf run)
             (at_disk self.new (B.disk bank.new)) result }
         ensures of { IsMoreRound self.new result }
+        ensures is { IsCore self.old }
     {
         let Some(actor) = self.committing else {
             unreachable!();

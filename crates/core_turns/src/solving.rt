@@ -65,7 +65,8 @@ impl ToSolve {
     ) -> bool
         requires shape { IsShapedAs layout.now read.now }
         requires solvable { IsSolvable self.now }
-        ensures { IsTrue result ↔ IsAlike self.now (record { layout = layout.now; read = read.now; len = len; digest = digest.now }) }
+        ensures { IsTrue result ↔ IsAlike self.now
+            (record { layout = layout.now; read = read.now; len = len; digest = digest.now }) }
     {
         self.layout == *layout
             && self.len == len

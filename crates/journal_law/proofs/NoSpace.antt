@@ -15,10 +15,10 @@ use Rattle.core_state.specs.declared.item.Group.{Group as GroupItem}
 use Rattle.core_state.specs.declared.item.Item.{Item}
 use Rattle.core_state.specs.declared.item.Item.TheVariants.{Group, Call}
 use Rattle.core_state.specs.Legal.{CallAt}
+use Rattle.core_state.proofs.Births.{births_between}
 use Rattle.core_blocks.specs.Puts.{sectors_taken}
 use Rattle.core_blocks.specs.Usage.{size_at}
 use Rattle.core_blocks.proofs.Sizes.{size_shrinks}
-use Rattle.core_open.proofs.BlockSpans.{births_between}
 use Rattle.client_script.specs.Script.{Script, handed_by}
 use Rattle.journal_law.specs.NoSpace.{births_told, has_ended, largest_size, width_told, FindsNoSpace, IsBornBehind}
 use Rattle.journal_law.specs.NoSpace.{NoSpaceIsCaused}

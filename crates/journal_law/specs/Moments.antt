@@ -11,7 +11,8 @@ use Rattle.core_state.specs.Collision.{BankKeeps}
 use Rattle.core_state.specs.Moment.{IsGroupOf, IsBegunAfter, KeepsSince}
 use Rattle.journal_law.specs.Parity.{HaveParityOf}
 
--- The bank keeps the journal's last group, and maybe one that was begun after it, in a pool that reaches so far by then.
+-- The bank keeps the journal's last group, and maybe one that was begun after it, in a pool that reaches so far by
+-- then.
 pub record KeepsLast (setting : Setting) (calls : Calls) (handed : PutBytes) (opening : Map) (items : List Item)
     (disk : Disk) : Type 0 where
   pub group : GroupItem

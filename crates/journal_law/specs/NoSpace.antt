@@ -59,15 +59,15 @@ has_ended ended from [] = ended
 has_ended ended from (Call entry ∷ items) = has_ended ended from items
 has_ended ended from (Group group ∷ items) = has_ended (if group.from == from then false else true) group.from items
 
--- What is put behind these items is born in the group after the last one, this. Behind one that ended an expansion it may
--- be one later, while the next group's commit is under way: only then has that another width.
+-- What is put behind these items is born in the group after the last one, this. Behind one that ended an expansion it
+-- may be one later, while the next group's commit is under way: only then has that another width.
 abbrev pub IsBornBehind : Uber → List Item → GroupItem → ℕ → Type 0
 IsBornBehind uber items group born = (born ≡ group.group + 1)
     ⊎ ((born ≡ group.group + 2) × (has_ended false uber.reflow.from items ≡ true))
 
--- Why a put finds no run of so many free sectors: its bytes take so many in the group in which they would be born, by the
--- births that the groups before this index leave; and the blocks at the opening and those that the script puts could
--- leave none.
+-- Why a put finds no run of so many free sectors: its bytes take so many in the group in which they would be born, by
+-- the births that the groups before this index leave; and the blocks at the opening and those that the script puts
+-- could leave none.
 pub record FindsNoSpace (script : Script) (uber : Uber) (entries : List IndexEntry) (items : List Item) (index : ℕ)
     (entry : Entry) (size : ℕ) : Type 0 where
   pub group : GroupItem

@@ -1,5 +1,6 @@
 -- What the clients of a script have come to that share a pool, whoever's turns they were.
-use Rattle.std.specs.Prelude.{◌≡◌, ◌⊎◌, ℕ, ◌+◌, ◌≤◌, List, [], ◌∷◌, ◌++◌, length, map, replicate, slice_get, true, false}
+use Rattle.std.specs.Prelude.{◌≡◌, ◌⊎◌, ℕ, ◌+◌, ◌≤◌, List, [], ◌∷◌, ◌++◌, length, map, replicate, slice_get, true}
+use Rattle.std.specs.Prelude.{false}
 use Rattle.std.specs.Prelude.{Option, Some, None}
 use Rattle.bank_trait.specs.Disk.{Disk}
 use Rattle.core_state.specs.declared.item.Entry.{Entry}
@@ -53,9 +54,9 @@ abbrev pub HaveAnswered : List Client → ℕ → ℕ → Type 0
 HaveAnswered clients actor count = (client : Client) → slice_get clients actor ≡ Some client
     → answered_of client.begun client.under_way ≡ count
 
--- What a client has before it once so many turns were counted: a turn, before which this can be computed; the first turn
--- of its next call again, which has found another's in its way; or none, as its calls are answered, or no more turns can
--- be counted.
+-- What a client has before it once so many turns were counted: a turn, before which this can be computed; the first
+-- turn of its next call again, which has found another's in its way; or none, as its calls are answered, or no more
+-- turns can be counted.
 abbrev pub IsNextFor : Script → ℕ → Turns → ℕ → Next → Type 0
 IsNextFor script actor now taken (GoesOn ahead) =
     (has_turn_at script now.clients actor ≡ true) × IsAskedNext script actor now.clients ahead
@@ -67,8 +68,8 @@ abbrev pub actors_told : List TurnsTaken → List ℕ
 actors_told [] = []
 actors_told (taken ∷ told) = replicate taken.turns taken.actor ++ actors_told told
 
--- Each of these clients has had a turn, in this order, whoever's turn it would have been by a script's order. What has to
--- stand before a turn stands after them, and what stood stands, with the journal grown by what the turns answered.
+-- Each of these clients has had a turn, in this order, whoever's turn it would have been by a script's order. What has
+-- to stand before a turn stands after them, and what stood stands, with the journal grown by what the turns answered.
 pub record HaveHadTurns (script : Script) (start : Turns) (actors : List ℕ) (now : Turns) (room : ℕ) : Type 0 where
   pub passed : List TurnTaken
   pub actors_are : map (λ turn. turn.actor) passed ≡ actors
@@ -83,13 +84,13 @@ StandsFor script (Some start) actors now room taken =
     HaveHadTurns script start actors now room × (taken ≡ length actors)
 
 -- The turns that were told led to where a client has this before it.
-pub record HasComeTo (script : Script) (start : Option Turns) (told : List TurnsTaken) (actor : ℕ) (next : Next) : Type 0
-  where
-    pub now : Turns
-    pub room : ℕ
-    pub taken : ℕ
-    pub stands : StandsFor script start (actors_told told) now room taken
-    pub next_is : IsNextFor script actor now taken next
+pub record ToldLeadTo (script : Script) (start : Option Turns) (told : List TurnsTaken) (actor : ℕ) (next : Next)
+    : Type 0 where
+  pub now : Turns
+  pub room : ℕ
+  pub taken : ℕ
+  pub stands : StandsFor script start (actors_told told) now room taken
+  pub next_is : IsNextFor script actor now taken next
 
 -- The lock was had so often that it can be had no more.
 abbrev pub IsSpent : Sitting TurnsTaken → Type 0
@@ -98,7 +99,7 @@ IsSpent seat = most_turns ≤ length seat.me.seen
 -- A client's thread had its turns, and came to where the client has this before it; or the lock can be had no more.
 abbrev pub ComesTo : Script → Option Turns → Sitting TurnsTaken → ℕ → Next → Type 0
 ComesTo script start seat actor next =
-    HasComeTo script start (entries seat.me.seen) actor next ⊎ (IsSpent seat × (next ≡ Ended))
+    ToldLeadTo script start (entries seat.me.seen) actor next ⊎ (IsSpent seat × (next ≡ Ended))
 
 -- Some clients have.
 abbrev pub HasStoodFor : Script → Option Turns → Turns → ℕ → ℕ → Type 0

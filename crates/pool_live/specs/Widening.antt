@@ -41,7 +41,8 @@ abbrev pub IsTakenSo : Script → Bool → GroupItem → Script → CoreState �
     → Type 0
 IsTakenSo script attaches opened carried state items ended turns after listed =
     (IsAlone script attaches opened × CarriesOut carried [] (turns_from carried state items) ended turns after listed)
-    ⊎ ((IsAlone script attaches opened → ⊥) × HasCarriedOut carried (turns_from carried state items) 0 after listed turns)
+    ⊎ ((IsAlone script attaches opened → ⊥)
+    × HasCarriedOut carried (turns_from carried state items) 0 after listed turns)
 
 -- From this state on a script was carried out so, with the client that widens the pool where it has one; and it ended
 -- so, in so many turns.

@@ -1,8 +1,8 @@
 //! What pools on banks in memory show, without the top call: tests alone, of the crates from a bank to `schedule`.
 //!
 //! They stand here together, since a crate with tests is proved twice. `test_pools` makes their pools, and carries out,
-//! draws and checks their scripts. `part_tests` has the worked rows of single parts, and `call_tests` the tests of whole
-//! calls.
+//! draws and checks their scripts. `part_tests` has the worked rows of single parts, and `call_tests` the tests of
+//! whole calls.
 #![tactic(auto)]
 
 #[cfg(test)]

@@ -8,7 +8,7 @@ use Rattle.raidzx.specs.declared.door.Pool.{Pool}
 use Rattle.raidzx.specs.declared.door.Pool.TheVariants.{Chosen}
 use Rattle.raidzx.specs.declared.door.Survey.{Survey}
 use Rattle.raidzx.specs.declared.standing.Known.{Known}
-use Rattle.raidzx.specs.Refused.{AreRefused, IsAmiss, IsRefused}
+use Rattle.raidzx.specs.Refused.{AreRefused, IsAmiss, IsRefusedPlace}
 
 same_known : (pool : Pool) (one other : Known) → pool ≡ Chosen one → pool ≡ Chosen other → one ≡ other
 same_known pool one other is_one is_other = cc
@@ -25,6 +25,6 @@ refused_of survey known places chosen amiss place = (
 
 -- Where the set is empty, it is refused for no place.
 pub refused_by_empty : (survey : Survey) (places : ℕ) → AreRefused survey places → places ≡ 0
-    → (place : ℕ) → IsRefused survey place → ⊥
+    → (place : ℕ) → IsRefusedPlace survey place → ⊥
 refused_by_empty survey places refused empty place is =
     true≢false (sym (subst (λ (set : ℕ). has_device set place ≡ true) empty ((refused place).1 is)) ∙ none_in place)

@@ -25,13 +25,13 @@ IsAmiss sightings known place = ShowsElsewhere sightings known.uber.pool place
     ⊎ (ShowsOtherPool sightings known.uber.pool place ⊎ IsOfOtherLife sightings known place))
 
 -- A command is refused for this place: an opening would choose a pool, and the words may be wrong there.
-abbrev pub IsRefused : Survey → ℕ → Type 0
-IsRefused survey place = (known : Known) × ((survey.pool ≡ Chosen known)
+abbrev pub IsRefusedPlace : Survey → ℕ → Type 0
+IsRefusedPlace survey place = (known : Known) × ((survey.pool ≡ Chosen known)
     × ((place < 64) × IsAmiss survey.sightings.list.items known place))
 
 -- These are the places for which it is refused.
 abbrev pub AreRefused : Survey → ℕ → Type 0
-AreRefused survey places = (place : ℕ) → has_device places place ≡ true ↔ IsRefused survey place
+AreRefused survey places = (place : ℕ) → has_device places place ≡ true ↔ IsRefusedPlace survey place
 
 -- It is refused, and the answer names these places.
 abbrev pub IsRefusal : Survey → Status → Type 0

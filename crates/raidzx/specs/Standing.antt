@@ -8,13 +8,14 @@ use Rattle.raidzx.specs.declared.sightings.Sighting.{Sighting}
 use Rattle.raidzx.specs.declared.sightings.Sightings.{Sightings}
 use Rattle.raidzx.specs.declared.standing.Known.{Known}
 use Rattle.raidzx.specs.declared.standing.Standing.{Standing}
-use Rattle.raidzx.specs.declared.standing.Standing.TheVariants.{InUse, Elsewhere, OtherLife, LeftBehind, Out, Foreign, Blank, Joining, Unread, Unnamed}
+use Rattle.raidzx.specs.declared.standing.Standing.TheVariants.{InUse, Elsewhere, OtherLife, LeftBehind, Out, Foreign}
+use Rattle.raidzx.specs.declared.standing.Standing.TheVariants.{Blank, Joining, Unread, Unnamed}
 use Rattle.raidzx.specs.Places.{IsElsewhereAt, IsLastOf, ShowsAtPlace}
 use Rattle.raidzx.specs.Refused.{IsOfOtherLife}
 
 -- The pool is about to copy onto the disk of this place, and has not begun.
-abbrev pub IsJoining : Known → ℕ → Type 0
-IsJoining known place = (known.uber.reflow.state ≡ None)
+abbrev pub IsAboutToJoin : Known → ℕ → Type 0
+IsAboutToJoin known place = (known.uber.reflow.state ≡ None)
     × ((known.uber.reflow.from < known.uber.reflow.to) × (place ≡ known.uber.reflow.from))
 
 -- The image at this place shows nothing.
@@ -37,6 +38,6 @@ IsSo sightings known place (Foreign sighting) =
     Any (λ other. (other.place ≡ place) × ((other.number ≡ sighting.number) × (other.uber ≡ sighting.uber)))
     sightings.list.items
 IsSo sightings known place Blank = ShowsNothing sightings.list.items place × (has_device sightings.unread place ≡ false)
-IsSo sightings known place Joining = ShowsNothing sightings.list.items place × IsJoining known place
+IsSo sightings known place Joining = ShowsNothing sightings.list.items place × IsAboutToJoin known place
 IsSo sightings known place Unread = (has_device known.out place ≡ true) ⊎ (has_device sightings.unread place ≡ true)
 IsSo sightings known place Unnamed = known.named ≤ place

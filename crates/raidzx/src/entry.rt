@@ -1,7 +1,7 @@
 // How a command over files is let in, and what is told before it is carried out.
 ghost use Rattle.std.specs.Prelude.{ℕ, IfErr, OnOk};
 ghost use Rattle.bank_trait.specs.Disk.{Unchanged};
-ghost use Rattle.raidzx.specs.Refused.{IsRefusal, IsRefused};
+ghost use Rattle.raidzx.specs.Refused.{IsRefusal, IsRefusedPlace};
 
 use crate::door::{Pool, Survey, look_around, refused_places};
 use crate::door_notes::{tell_status, tell_survey};
@@ -46,7 +46,7 @@ fn let_in<R: Eprint>(
     lengths: &[u64],
     survey: &Survey,
 ) -> Result<(), Status>
-    ensures ok { OnOk result ((place : ℕ) → IsRefused survey.now place → ⊥) }
+    ensures ok { OnOk result ((place : ℕ) → IsRefusedPlace survey.now place → ⊥) }
     ensures err { IfErr result (IsRefusal survey.now) }
 {
     let refused = refused_places(survey);

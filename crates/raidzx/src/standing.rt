@@ -1,7 +1,7 @@
 // What the image at a place is to the pool that is opened.
 ghost use Rattle.std.specs.Prelude.{◌≡◌, ◌+◌, ◌<◌, ◌↔◌, IsTrue};
 ghost use Rattle.raidzx.specs.Places.{IsLastOf};
-ghost use Rattle.raidzx.specs.Standing.{IsJoining, IsSo};
+ghost use Rattle.raidzx.specs.Standing.{IsAboutToJoin, IsSo};
 
 use crate::lives::is_of_another_life;
 use crate::places::{listed_out, shown_elsewhere, unnamed_places};
@@ -52,7 +52,7 @@ pub struct Known {
 
 impl Known {
     ghost use Rattle.std.specs.Prelude.{◌≡◌, ◌↔◌, ℕ, IsTrue, true};
-    ghost use Rattle.raidzx.specs.Standing.{IsJoining};
+    ghost use Rattle.raidzx.specs.Standing.{IsAboutToJoin};
     ghost use Rattle.uberblock_ring.specs.Devices.{has_device};
     ghost use Rattle.raidzx.specs.Unnamed.{IsUnnamed};
 
@@ -101,7 +101,7 @@ impl Known {
 
     /// Whether this is the place of a disk that is being attached, and of which nothing was copied.
     fn is_joining(&self, place: u32) -> bool
-        ensures { IsTrue result ↔ IsJoining self.now place }
+        ensures { IsTrue result ↔ IsAboutToJoin self.now place }
     {
         let reflow = self.uber.reflow();
         reflow.state == State::None && reflow.from < reflow.to && place == reflow.from

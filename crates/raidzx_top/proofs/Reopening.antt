@@ -30,7 +30,8 @@ use Rattle.client_script.specs.Script.{Script, IsAllowed, asked_by, handed_by}
 use Rattle.journal_law.proofs.Rows.{row_among}
 use Rattle.journal_law.proofs.RunBytes.{HoldsBytes, HandsBytes, after_bytes, script_hands}
 use Rattle.schedule.specs.WholeRun.{HasRun, RunKeeps, banks_of}
-use Rattle.raidzx_top.specs.Reopened.{IsToldOn, BearsCut, IsLeft, IsLeftOn, ReadsBack, IsReadBack, SurvivesOpening, SurvivesStops}
+use Rattle.raidzx_top.specs.Reopened.{IsToldOn, BearsCut, IsLeft, IsLeftOn, ReadsBack, IsReadBack, SurvivesOpening}
+use Rattle.raidzx_top.specs.Reopened.{SurvivesStops}
 use Rattle.raidzx_top.specs.Reopened.{last_groups}
 
 -- A bank that goes on has the devices and the sectors that it had.

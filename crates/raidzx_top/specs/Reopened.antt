@@ -98,8 +98,8 @@ pub record SurvivesByTurn (setting : Setting) (known : List Kept) (script : Scri
       → IsLeft setting (banks (count + 1)) moment image
       → IsReadBack setting (last_groups (no_older.each count some all)) image
 
--- At the end it is the journal's last group, or one begun after it. With these a run may begin at once on the bank that is
--- given back, without a stop between.
+-- At the end it is the journal's last group, or one begun after it. With these a run may begin at once on the bank that
+-- is given back, without a stop between.
 pub record SurvivesItsEnd (setting : Setting) (script : Script) (opening : Map) (new : Disk) (items : List Item)
     : Type 0 where
   pub kept : KeepsLast setting (asked_by script) (handed_by script) opening items new

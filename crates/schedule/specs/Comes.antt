@@ -13,7 +13,8 @@ use Rattle.schedule.specs.Turned.{HasDeviceUnder, TurnState}
 use Rattle.schedule.specs.Turns.{taken_by, turns_of}
 
 -- A client takes a turn: the others stay as they are.
-pub record TakesTurn (script : Script) (actor : ℕ) (before after : TurnState) (clients news : List Client) : Type 0 where
+pub record TakesTurn (script : Script) (actor : ℕ) (before after : TurnState) (clients news : List Client)
+    : Type 0 where
   pub schedule : IsSchedule script (turns_of before.state before.items clients)
   pub was : slice_get clients actor ≡ Some before.client
   pub changes : Changes clients news actor after.client
@@ -28,7 +29,8 @@ pub record TakesTurn (script : Script) (actor : ℕ) (before after : TurnState) 
   pub numbers : IsNumbered before.items before.state.core → IsNumbered after.items after.state.core
 
 -- It comes to a state in which the next turn may be taken.
-pub record Comes (script : Script) (actor : ℕ) (before after : TurnState) (clients news : List Client) : Type 0 where
+pub record Comes (script : Script) (actor : ℕ) (before after : TurnState) (clients news : List Client)
+    : Type 0 where
   pub come : LeadTo script (turns_of before.state before.items clients)
       (taken_by actor (turns_of after.state after.items news) ∷ []) (turns_of after.state after.items news)
   pub schedule : IsSchedule script (turns_of after.state after.items news)

@@ -55,8 +55,8 @@ AttachesNone script = (actor number : ℕ) (call : ScriptCall) → slice_get (ca
     → call.kind ≢ kind.Attach
 
 -- What a turn of a call of this script does: as a turn of an attach does, so the device behind those that the pool
--- reaches to may be called, and may join; and where no call of the script is an attach, as every other turn does. The bank
--- goes on having what is in use.
+-- reaches to may be called, and may join; and where no call of the script is an attach, as every other turn does. The
+-- bank goes on having what is in use.
 pub record GoesOnFor (script : Script) (before after : CoreState) : Type 0 where
   pub goes : AttachGoesOn before after
   pub same : AttachesNone script → StaysAsWide before after
@@ -67,9 +67,9 @@ pub record IsWorldOf (script : Script) (world : World) : Type 0 where
   pub calls : world.calls ≡ asked_by script
   pub handed : world.handed ≡ handed_by script
 
--- The pool goes on, and reaches to no fewer devices. Devices went out where they failed, and none was touched but those in
--- use that the pool then reaches to, and the one behind them, which an attach may have laid a group without its joining.
--- Where no call of the script is an attach, the pool is as wide as before.
+-- The pool goes on, and reaches to no fewer devices. Devices went out where they failed, and none was touched but those
+-- in use that the pool then reaches to, and the one behind them, which an attach may have laid a group without its
+-- joining. Where no call of the script is an attach, the pool is as wide as before.
 pub record PoolGoesOn (script : Script) (before after : CoreState) : Type 0 where
   pub later : Later before.disk after.disk
   pub parity : after.core.pool.uber.parity ≡ before.core.pool.uber.parity
@@ -78,8 +78,8 @@ pub record PoolGoesOn (script : Script) (before after : CoreState) : Type 0 wher
   pub same : AttachesNone script → StaysAsWide before after
   pub out : OnlyFailedGoOut (point_of before.core.pool.out before.disk) (point_of after.core.pool.out after.disk)
 
--- The journal keeps what was listed. What was answered since fits its call, what an attach under way goes on to tell has
--- its cause, and groups are numbered.
+-- The journal keeps what was listed. What was answered since fits its call, what an attach under way goes on to tell
+-- has its cause, and groups are numbered.
 pub record JournalGoesOn (start now : Turns) : Type 0 where
   pub listed : (index : ℕ) (item : Item) → slice_get start.items index ≡ Some item
       → slice_get now.items index ≡ Some item
@@ -88,8 +88,8 @@ pub record JournalGoesOn (start now : Turns) : Type 0 where
   pub dropped : (cause : WhyDropped) → IsToBeTold now.clients cause → HasDropCause start now cause
   pub numbers : IsNumbered start.items start.state.core → IsNumbered now.items now.state.core
 
--- These devices' failure has to be borne: all that were out at first, and no more than there are parities; they were out
--- then, or have failed since. Where too many were out at first there are none, since no device is called any more.
+-- These devices' failure has to be borne: all that were out at first, and no more than there are parities; they were
+-- out then, or have failed since. Where too many were out at first there are none, since no device is called any more.
 pub record HasToBear (before after : CoreState) (borne : ℕ) : Type 0 where
   pub few : count_of borne ≤ before.core.pool.uber.parity
   pub from_start : count_of before.core.pool.out ≤ before.core.pool.uber.parity

@@ -58,8 +58,8 @@ abbrev pub filling : ℕ → Option ToFill → ToCompute
 filling number (Some block) = to_compute.Fill number block
 filling number None = to_compute.Nothing
 
--- What a call under way asks for, the call of this number among its client's. A read asks once it has all columns, where
--- there is memory to share them.
+-- What a call under way asks for, the call of this number among its client's. A read asks once it has all columns,
+-- where there is memory to share them.
 abbrev pub IsAskedOf : ℕ → Work → ToCompute → Type 0
 IsAskedOf number (work.Put run) asked = asked ≡ filling number (left_to_fill run run.filled)
 IsAskedOf number (work.Read run) to_compute.Nothing = ⊤

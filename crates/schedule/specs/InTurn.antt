@@ -91,8 +91,9 @@ cursor_after script clients (InRest given) =
 
 -- ---- turns
 
--- The client of this number has one turn, of its call under way or of its next one, and the others stay as they are. So a
--- client that has neither has no turn. One in which the next call finds another's in its way is a turn: the client waits.
+-- The client of this number has one turn, of its call under way or of its next one, and the others stay as they are. So
+-- a client that has neither has no turn. One in which the next call finds another's in its way is a turn: the client
+-- waits.
 pub record IsTurnOf (script : Script) (actor : ℕ) (before after : Turns) : Type 0 where
   pub client : Client
   pub there : slice_get before.clients actor ≡ Some client
@@ -135,7 +136,8 @@ IsStepOf script before passed more after (Some actor) = IsTurnOf script actor be
     × (after.taken ≡ before.taken + 1) × (more ≡ passed ++ taken_by actor after.turns ∷ [])
 
 -- One step of a replay: the turn of the client whose it is there.
-pub record ReplaySteps (script : Script) (before : Replay) (passed more : List TurnTaken) (after : Replay) : Type 0 where
+pub record ReplaySteps (script : Script) (before : Replay) (passed more : List TurnTaken) (after : Replay)
+    : Type 0 where
   pub turn : IsStepOf script before passed more after (turn_at script before.turns.clients before.cursor)
   pub cursor : after.cursor ≡ cursor_after script before.turns.clients before.cursor
 

@@ -130,8 +130,8 @@ EndsAs script start passed now Limit = HasGone script start passed now × (most_
 
 -- From this start the calls of a script were carried out, with these turns, first those that were listed, so many in
 -- all; and they ended so, with this core, its disk and this journal.
-pub record CarriesOut (script : Script) (listed : List ℕ) (start : Turns) (ended : Ended) (taken : ℕ) (state : CoreState)
-    (items : List Item) : Type 0 where
+pub record CarriesOut (script : Script) (listed : List ℕ) (start : Turns) (ended : Ended) (taken : ℕ)
+    (state : CoreState) (items : List Item) : Type 0 where
   pub passed : List TurnTaken
   pub clients : List Client
   pub cursor : Cursor

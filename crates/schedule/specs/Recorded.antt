@@ -18,8 +18,8 @@ use Rattle.schedule.specs.Moments.{KeptSoFar, KeepsOn, Past}
 
 -- The journal is right so far; each image since the bank was the first one keeps groups of the run in a row, none
 -- older than the last one listed by then. The last group listed is this one, by this item, and these that images can
--- show were begun after it; each image since the last item was listed keeps some of them. All groups of the run have one
--- parity.
+-- show were begun after it; each image since the last item was listed keeps some of them. All groups of the run have
+-- one parity.
 pub record Recorded (world : World) (past : Past) (items : List Item) (item : GroupItem) (last : Kept)
     (begun : List Kept) (now : Disk) : Type 0 where
   pub groups : Groups world.calls world.handed world.opening world.known items

@@ -30,8 +30,8 @@ blank_clients count = replicate count blank_client
 pub record AreIdle (clients : List Client) : Type 0 where
   pub each : (index : ℕ) (client : Client) → slice_get clients index ≡ Some client → client.under_way ≡ None
 
--- A client took a turn: it begins no other call while it has one under way. Where no call is under way, its next one finds
--- none in its way.
+-- A client took a turn: it begins no other call while it has one under way. Where no call is under way, its next one
+-- finds none in its way.
 pub record TakesOne (script : Script) (actor : ℕ) (before : Turns) (clients : List Client) (client now : Client)
     : Type 0 where
   pub there : slice_get clients actor ≡ Some now

@@ -78,8 +78,10 @@ Waits old new devices actor call asked id by = ⊥
 abbrev pub BeginsWork : Core → Core → ℕ → ℕ → ScriptCall → Kind → Option ℕ → Work → Type 0
 BeginsWork old new devices actor call kind.Put (Some id) (work.Put run) =
     BeginsPutTurn old new actor id (length (fill_bytes call.fill)) (More run)
-BeginsWork old new devices actor call kind.Get (Some id) (work.Read run) = BeginsGet old new actor kind.Get id (More run)
-BeginsWork old new devices actor call kind.Sum (Some id) (work.Read run) = BeginsGet old new actor kind.Sum id (More run)
+BeginsWork old new devices actor call kind.Get (Some id) (work.Read run) =
+    BeginsGet old new actor kind.Get id (More run)
+BeginsWork old new devices actor call kind.Sum (Some id) (work.Read run) =
+    BeginsGet old new actor kind.Sum id (More run)
 BeginsWork old new devices actor call kind.Sync None (work.Sync run) = BeginsCommit old new actor (More run)
 BeginsWork old new devices actor call kind.Attach None (work.Attach run) =
     BeginsAttach old new devices actor (More run)
@@ -242,7 +244,8 @@ WorkGoesOn (work.Attach run) before after = AttachGoesOn before after × (HasBan
 WorkGoesOn other before after = TurnGoesOn before after
 
 -- The client's call under way goes on, or is answered.
-pub record CallGoesOn (calls : List ScriptCall) (before after : TurnState) (under : UnderWay) (turn : Turn Work) : Type 0 where
+pub record CallGoesOn (calls : List ScriptCall) (before after : TurnState) (under : UnderWay) (turn : Turn Work)
+    : Type 0 where
   pub going : before.client.under_way ≡ Some under
   pub call : ScriptCall
   pub is : slice_get calls (before.client.begun - 1) ≡ Some call
@@ -263,8 +266,8 @@ LeavesBegun actor call before after (Done given) =
     ++ Call (entry_for call actor (before.client.begun + 1) (length before.items) given) ∷ [])
     × (after.client ≡ record { begun = before.client.begun + 1; under_way = None })
 
--- a call under way once a turn has left it with this work, when the journal had so many items: its group began then, where
--- its commit begins in that turn
+-- a call under way once a turn has left it with this work, when the journal had so many items: its group began then,
+-- where its commit begins in that turn
 abbrev pub gone_on : UnderWay → ℕ → Work → UnderWay
 gone_on under now does = record {
   at = begun_at (commit_in does) (commit_in under.work) under.at now;

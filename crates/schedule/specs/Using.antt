@@ -52,8 +52,8 @@ pub record IsHeldIn (runs : List Run) (hold : Hold) : Type 0 where
   pub begins : run.start ≤ hold.lo
   pub ends : hold.hi ≤ run.start + run.len
 
--- Whatever sectors are taken, held back, or shared by a call are of these runs. Those that a call holds alone make a put
--- wait, but leave none without space.
+-- Whatever sectors are taken, held back, or shared by a call are of these runs. Those that a call holds alone make a
+-- put wait, but leave none without space.
 pub record AreRunsOf (runs : List Run) (core : Core) : Type 0 where
   pub taken : (run : Run) → Contains core.pool.blocks.space.taken run → Contains runs run
   pub held : (run : HeldRun) → Contains core.pool.blocks.space.held run → Contains runs (held_sectors run)
@@ -66,8 +66,8 @@ pub record AreAtMost (runs : List Run) (left sizes : List ℕ) : Type 0 where
 
 -- ---- between two turns
 
--- A pool has parity, rows and first width of its opening's uberblock, has its data rows at no smaller width, and is of no
--- older group.
+-- A pool has parity, rows and first width of its opening's uberblock, has its data rows at no smaller width, and is of
+-- no older group.
 pub record IsOpenSince (uber : Uber) (core : Core) : Type 0 where
   pub right : IsRightUber uber
   pub since : uber.group ≤ core.pool.uber.group

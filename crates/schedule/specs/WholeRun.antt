@@ -40,16 +40,16 @@ use Rattle.schedule.specs.Turns.{Turns, TurnTaken, bank_when, last_left, turns_o
 
 -- A run began with this group: one of those that the bank kept, which the devices choose but for the silent ones, and
 -- the journal's first group is the one after it.
-pub record BeginsWith (first : Kept) (later : List Kept) (old : Disk) (items : List Item) (silent : ℕ) (chosen : Kept)
+pub record RunOrigin (first : Kept) (later : List Kept) (old : Disk) (items : List Item) (silent : ℕ) (chosen : Kept)
     : Type 0 where
   pub known : Contains (first ∷ later) chosen
   pub choice : (image : Image) → HoldsImage old image
       → (shown : IsChoiceWithout (shape_of old) silent image) × (shown.uber.group ≡ chosen.uber.group)
   pub begins : BeginsAfter chosen items
 
--- The journal is legal from that group's map on. No read is told as damaged. Answers have the cause that the journal tells
--- and the bank; one says `Full` where the map and the script have more ids than a table has room for, and one says
--- `NoSpace` where the group's index and the script have too many blocks.
+-- The journal is legal from that group's map on. No read is told as damaged. Answers have the cause that the journal
+-- tells and the bank; one says `Full` where the map and the script have more ids than a table has room for, and one
+-- says `NoSpace` where the group's index and the script have too many blocks.
 pub record JournalIsTrue (script : Script) (chosen : Kept) (items : List Item) (banks : ℕ → Disk) : Type 0 where
   pub legal : IsLegalJournal (asked_by script) (handed_by script) chosen.map items
   pub sound : (index : ℕ) (entry : Entry) → CallAt items index entry → entry.answer ≢ answer.Damaged
@@ -65,13 +65,13 @@ pub record AreGroupsOf (groups : List Kept) (first : Kept) (at_end : List Kept) 
   pub parities : HaveParity first.uber.parity groups
   pub parity_is : first.uber.parity ≡ parity
 
--- Whatever a stop leaves, at any moment of the run, keeps some of the groups in a row: those kept before, the journal's,
--- and at most one that was begun after them; and none older than the last one listed by then. At its end that is the
--- journal's last one.
+-- Whatever a stop leaves, at any moment of the run, keeps some of the groups in a row: those kept before, the
+-- journal's, and at most one that was begun after them; and none older than the last one listed by then. At its end
+-- that is the journal's last one.
 pub record RunKeeps (script : Script) (setting : Setting) (first : Kept) (later : List Kept) (old new : Disk)
     (items : List Item) (parity silent : ℕ) (banks : ℕ → Disk) : Type 0 where
   pub chosen : Kept
-  pub origin : BeginsWith first later old items silent chosen
+  pub origin : RunOrigin first later old items silent chosen
   pub journal : JournalIsTrue script chosen items banks
   pub any_moment : KeepsThroughout setting (asked_by script) (handed_by script) chosen.map (first ∷ later) items old new
   pub no_older : KeepsTurnByTurn setting (asked_by script) (handed_by script) chosen.map (first ∷ later) items
@@ -85,16 +85,16 @@ abbrev pub first_turns : Script → CoreState → GroupItem → Turns
 first_turns script start opened = turns_of start (Group opened ∷ []) (blank_clients script.clients)
 
 -- The opening left a core at rest, of the pool that it opened, and listed the pool's group first.
-pub record IsOpenedWith (old : Disk) (items : List Item) (opened : GroupItem) (start : CoreState) : Type 0 where
+pub record OpeningLeft (old : Disk) (items : List Item) (opened : GroupItem) (start : CoreState) : Type 0 where
   pub there : GroupAt items 0 opened
   pub opened_is : opened ≡ first_item start.core.pool
   pub rest : IsAtRest start.core
   pub bank : HasBankOf start.core start.disk
   pub later : Later old start.disk
 
--- Each device that was silent when the pool was looked for has failed by the end of the opening. But for those the devices
--- choose the group that the opening renews. The opening wrote copies of that group, and nothing else until the uberblock
--- that renews it.
+-- Each device that was silent when the pool was looked for has failed by the end of the opening. But for those the
+-- devices choose the group that the opening renews. The opening wrote copies of that group, and nothing else until the
+-- uberblock that renews it.
 pub record OpeningRenews (old : Disk) (start : CoreState) (silent : ℕ) : Type 0 where
   pub failed : HaveFailed old start.disk silent
   pub renews : (image : Image) → HoldsImage old image
@@ -109,9 +109,9 @@ pub record TurnsCameTo (script : Script) (first : Turns) (passed : List TurnTake
   pub items_are : (last_left first passed).items ≡ items
   pub disk_is : (last_left first passed).state.disk ≡ new
 
--- Each device that is out at the end was out in the pool that was opened, or failed in the run. No device is touched but
--- those of the pool, as far as it reaches in the end, and the one behind them, which an attach may have laid a group
--- without its joining; where no call of the script is an attach, but those of the pool that was opened.
+-- Each device that is out at the end was out in the pool that was opened, or failed in the run. No device is touched
+-- but those of the pool, as far as it reaches in the end, and the one behind them, which an attach may have laid a
+-- group without its joining; where no call of the script is an attach, but those of the pool that was opened.
 pub record DevicesAreSpared (script : Script) (old new : Disk) (silent to parity out reach : ℕ) : Type 0 where
   pub each : (image : Image) → HoldsImage old image → AreOutIn old new silent to parity out image
   pub only : TouchesOnly (IsOnBelow (reach + 1)) old new
@@ -127,8 +127,8 @@ pub record AnswersCalls (script : Script) (old new : Disk) (items : List Item) (
   pub lines : script.clients ≤ 1 → All (λ placed. placed.actor < script.clients) script.calls
       → FollowsLines script items
 
--- These devices have to be borne: no more than there are parities, of those that are out at the end; with the silent ones
--- of the pool, and those that the opening's group lists as out.
+-- These devices have to be borne: no more than there are parities, of those that are out at the end; with the silent
+-- ones of the pool, and those that the opening's group lists as out.
 pub record AreToBeBorne (borne silent to out_first parity out : ℕ) : Type 0 where
   pub few : count_of borne ≤ parity
   pub within : IsWithin borne out
@@ -140,7 +140,7 @@ pub record HasRun (script : Script) (old new : Disk) (items : List Item) (out : 
   -- the group that the journal begins with, and what the opening left
   pub opened : GroupItem
   pub start : CoreState
-  pub opens : IsOpenedWith old items opened start
+  pub opens : OpeningLeft old items opened start
   -- the devices that were silent when the pool was looked for
   pub silent : ℕ
   pub opening : OpeningRenews old start silent
@@ -155,8 +155,8 @@ pub record HasRun (script : Script) (old new : Disk) (items : List Item) (out : 
   -- the devices whose failure has to be borne
   pub borne : ℕ
   pub bears : AreToBeBorne borne silent opened.to start.core.pool.uber.out parity out
-  -- Where these may fail, and those that were silent of the first group's devices, all that a run keeps is kept. An item
-  -- was listed with the bank as its turn left it.
+  -- Where these may fail, and those that were silent of the first group's devices, all that a run keeps is kept. An
+  -- item was listed with the bank as its turn left it.
   pub keeps : (setting : Setting) (first : Kept) (later : List Kept) → MayBegin setting first later old
       → IsWithinBelow first.uber.reflow.to silent setting.failed → IsWithin borne setting.failed
       → RunKeeps script setting first later old new items parity silent
@@ -167,8 +167,8 @@ abbrev pub banks_of : {script : Script} → {old new : Disk} → {items : List I
     → HasRun script old new items out → ℕ → Disk
 banks_of {script = script} run = bank_when (first_turns script run.start run.opened) run.passed
 
--- The turns of a run were those of the clients whose turn it was, first those that were listed, as many as are told, and
--- they ended as is told.
+-- The turns of a run were those of the clients whose turn it was, first those that were listed, as many as are told,
+-- and they ended as is told.
 pub record HasTakenTurns (script : Script) (listed : List ℕ) {old new : Disk} {items : List Item} {out : ℕ}
     (run : HasRun script old new items out) (ran : Ran) : Type 0 where
   pub now : Turns

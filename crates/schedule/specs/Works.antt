@@ -40,8 +40,8 @@ abbrev pub made_in : Work → Option ℕ
 made_in (work.Copy (Rests actor made)) = made
 made_in other = None
 
--- how many items the journal had when a call's group began: as many as it has now, where the call's commit begins in this
--- turn, and else as many as were told before
+-- how many items the journal had when a call's group began: as many as it has now, where the call's commit begins in
+-- this turn, and else as many as were told before
 abbrev pub begun_at : Option CommitRun → Option CommitRun → ℕ → ℕ → ℕ
 begun_at None was at now = at
 begun_at (Some run) None at now = now

@@ -103,10 +103,12 @@ pub struct UnderWay {
 impl UnderWay {
     /// What its next turn asks to be computed, where it is the call of this number, from 0, among these.
     fn to_compute(&mut self, alloc: Global, calls: &[ScriptCall], number: usize) -> ToCompute
-        requires may { (core : CoreOf) × ((call : CallOf) → slice_get calls.now number ≡ Some call → MayGoOn core call self.old.work) }
+        requires may { (core : CoreOf) × ((call : CallOf) → slice_get calls.now number ≡ Some call
+            → MayGoOn core call self.old.work) }
         ensures same { self.new ≡ self.old }
         ensures can { IsComputable calls.now result }
-        ensures asked { (call : CallOf) → slice_get calls.now number ≡ Some call → IsAskedOf number self.old.work result }
+        ensures asked { (call : CallOf) → slice_get calls.now number ≡ Some call
+            → IsAskedOf number self.old.work result }
     {
         match calls.get(number) {
             Some(call) => self.work.to_compute(alloc, call, number),

@@ -109,7 +109,8 @@ impl Computed {
     /// The block of a put that was made up.
     pub fn into_block(self) -> Option<Box<MadeUp>>
         ensures value { result ≡ block_in self }
-        ensures made { (call : CallOf) → IsComputedOf call self → IfSome result (λ made. IsMadeUpOf (fill_bytes call.fill) made.value) }
+        ensures made { (call : CallOf) → IsComputedOf call self
+            → IfSome result (λ made. IsMadeUpOf (fill_bytes call.fill) made.value) }
     {
         match self {
             Computed::Filled { call: _, made } => Some(made),

@@ -29,7 +29,13 @@ pub struct Finished<B: Bank> {
 impl<B: Bank> Live<B> {
     /// What is left of it once the calls were carried out, which ended so.
     pub fn end(self, ended: Ended) -> Finished<B>
-        ensures { result ≡ record { bank = self.bank; core = self.core; journal = self.journal; ended = ended; turns = self.progress.turns } }
+        ensures { result ≡ record {
+          bank = self.bank;
+          core = self.core;
+          journal = self.journal;
+          ended = ended;
+          turns = self.progress.turns;
+        } }
     {
         let Live {
             bank,

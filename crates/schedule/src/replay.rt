@@ -218,8 +218,8 @@ fn take_call<B: Bank>(
     ensures played { OnOk result ((given : ℕ) → IsCallOfScript script.now given actor number → HasPlayed script.now
         (replay_in B.disk live.old (InRest given))
         (replay_in B.disk live.new (InRest given)) live.new.journal.room) }
-    ensures stopped { OnErr result ((given : ℕ) → IsCallOfScript script.now given actor number → HasRunOutOfTurns script.now
-        (replay_in B.disk live.old (InRest given))
+    ensures stopped { OnErr result ((given : ℕ) → IsCallOfScript script.now given actor number
+        → HasRunOutOfTurns script.now (replay_in B.disk live.old (InRest given))
         (turns_in B.disk live.new) live.new.progress.turns live.new.journal.room) }
     ensures begins { OnOk result (BeginsOne actor live.old.progress.clients.items live.new.progress.clients.items) }
     ensures idle { OnOk result (AreIdle live.new.progress.clients.items) }
@@ -296,11 +296,11 @@ pub fn begin(alloc: Global, script: &Script, journal: &mut Journal) -> Result<Pr
 
 /// Carries out the calls of a script turn by turn. Each letter of the order is one turn of that client: the
 /// next of its call under way, or the first of its next call; one that finds another's call in its way does nothing,
-/// and is a turn. A letter of a client that has nothing left is passed over. After the order the calls under way take one turn each in letter
-/// order, round after round, until all have ended; then the remaining calls are carried out one after the other,
-/// whole, in the order of their lines. Room for all answers is made before the first turn, so that none is kept
-/// from being listed; where there is no memory for that, nothing is done. After 2^62 turns no more is taken: calls
-/// under way stay as they are.
+/// and is a turn. A letter of a client that has nothing left is passed over. After the order the calls under way take
+/// one turn each in letter order, round after round, until all have ended; then the remaining calls are carried out one
+/// after the other, whole, in the order of their lines. Room for all answers is made before the first turn, so that
+/// none is kept from being listed; where there is no memory for that, nothing is done. After 2^62 turns no more is
+/// taken: calls under way stay as they are.
 pub fn carry_out<B: Bank>(
     alloc: Global,
     bank: B,

@@ -37,7 +37,8 @@ pub record AreEdgesOf (entries : List Entry) (edges : List ℕ) : Type 0 where
 -- use are those of the ones still in use, and what was room for the edges of all runs is that for those left.
 pub record HasReleased (held left : List HeldEntry) (old new : Vec ℕ Global) : Type 0 where
   pub rising : IsRising new.items
-  pub edges_of : (taken : List Entry) → AreEdgesOf (in_use taken held) old.items → AreEdgesOf (in_use taken left) new.items
+  pub edges_of : (taken : List Entry)
+      → AreEdgesOf (in_use taken held) old.items → AreEdgesOf (in_use taken left) new.items
   pub room : vec_len new + 2 * length left ≤ vec_len old + 2 * length held
   pub capacity : vec_capacity new ≡ vec_capacity old
 

@@ -25,7 +25,8 @@ pub record IsRoom (edges : List ℕ) (shared : List Hold) (capacity len start : 
 pub record IsLowest (edges : List ℕ) (shared exclusive : List Hold) (capacity len start : ℕ) : Type 0 where
   pub room : IsRoom edges shared capacity len start
   pub clear : Spares exclusive start (start + len)
-  pub none : (other : ℕ) → other < start → IsRoom edges shared capacity len other → Spares exclusive other (other + len) → ⊥
+  pub none : (other : ℕ) → other < start → IsRoom edges shared capacity len other
+      → Spares exclusive other (other + len) → ⊥
 
 -- The lowest room that no shared hold overlaps is hindered by this exclusive hold first.
 pub record IsHinderedBy (edges : List ℕ) (shared exclusive : List Hold) (capacity len : ℕ) (hold : Hold) : Type 0 where
@@ -36,7 +37,8 @@ pub record IsHinderedBy (edges : List ℕ) (shared exclusive : List Hold) (capac
 
 -- what hinders the lowest room below a sector, if there is any room there
 abbrev pub IsHindered : List ℕ → List Hold → List Hold → ℕ → ℕ → ℕ → Option Hold → Type 0
-IsHindered edges shared exclusive capacity len start None = (other : ℕ) → other < start → IsRoom edges shared capacity len other → ⊥
+IsHindered edges shared exclusive capacity len start None = (other : ℕ) → other < start
+    → IsRoom edges shared capacity len other → ⊥
 IsHindered edges shared exclusive capacity len start (Some hold) = IsHinderedBy edges shared exclusive capacity len hold
 
 -- why there is no room: none is long enough, or an exclusive hold hinders each, this one the lowest
@@ -78,7 +80,8 @@ pub record IsRunTo (edges : List ℕ) (capacity start end next : ℕ) : Type 0 w
 pub record HasWalked (edges : List ℕ) (shared exclusive : List Hold) (capacity len : ℕ) (walk : Walk) : Type 0 where
   pub run : IsRunTo edges capacity walk.start walk.end walk.next
   pub seen : (edge : ℕ) → edge + 2 < walk.next → (edge < length edges) × (get_or edges edge 0 < capacity)
-  pub none : (other : ℕ) → other < walk.start → IsRoom edges shared capacity len other → Spares exclusive other (other + len) → ⊥
+  pub none : (other : ℕ) → other < walk.start → IsRoom edges shared capacity len other
+      → Spares exclusive other (other + len) → ⊥
   pub hindered : IsHindered edges shared exclusive capacity len walk.start walk.hindered
   pub shared_within : walk.shared ≤ length shared
   pub exclusive_within : walk.exclusive ≤ length exclusive
@@ -88,20 +91,23 @@ pub record HasWalked (edges : List ℕ) (shared exclusive : List Hold) (capacity
 -- the hold at a place, if it begins below a sector
 abbrev pub IsHead : List Hold → ℕ → ℕ → Option Hold → Type 0
 IsHead holds at end None = (default : Hold) → at < length holds → end ≤ (get_or holds at default).lo
-IsHead holds at end (Some hold) = (at < length holds) × ((default : Hold) → get_or holds at default ≡ hold) × (hold.lo < end)
+IsHead holds at end (Some hold) = (at < length holds)
+    × ((default : Hold) → get_or holds at default ≡ hold) × (hold.lo < end)
 
 -- whether a run begins at sector 0, as a number
 abbrev pub first_run : List ℕ → ℕ → ℕ
 first_run edges capacity = cond (nat_lt 0 (get_or edges 0 capacity)) 1 0
 
--- the most steps that lead to here from the first run on: each exclusive hold may make the search look twice at a shared one
+-- the most steps that lead to here from the first run on: each exclusive hold may make the search look twice at a
+-- shared one
 abbrev pub steps_to : Walk → ℕ
 steps_to walk = walk.next / 2 + walk.shared + 2 * walk.exclusive
 
 -- what is left to be looked at
 abbrev pub left_of : List ℕ → List Hold → List Hold → ℕ → Walk → ℕ
 left_of edges shared exclusive capacity walk =
-    (capacity - walk.start) + (length edges - walk.next) + (length shared - walk.shared) + (length exclusive - walk.exclusive)
+    (capacity - walk.start) + (length edges - walk.next) + (length shared - walk.shared)
+    + (length exclusive - walk.exclusive)
 
 -- The list has each sector at which a run of free sectors begins.
 abbrev pub HasBegins : List ℕ → ℕ → List ℕ → Type 0

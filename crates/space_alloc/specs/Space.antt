@@ -53,9 +53,11 @@ pub record BeginsFree (space : Space) (sector : ℕ) : Type 0 where
   pub free : IsFree space [] sector
   pub first : (before : ℕ) → before + 1 ≡ sector → IsFree space [] before → ⊥
 
--- No more steps than one and two for each free run and each hold: any list suffices that has the start of each free run.
+-- No more steps than one and two for each free run and each hold: any list suffices that has the start of each free
+-- run.
 abbrev pub LooksAtEach : Space → List Hold → ℕ → ℕ → Type 0
-LooksAtEach space holds before after = (starts : List ℕ) → ((sector : ℕ) → BeginsFree space sector → Contains starts sector)
+LooksAtEach space holds before after = (starts : List ℕ)
+    → ((sector : ℕ) → BeginsFree space sector → Contains starts sector)
     → after ≤ before + 2 * (length starts + length holds) + 1
 
 -- what a put takes: the lowest run of free sectors that no exclusive hold overlaps

@@ -20,8 +20,8 @@ pub struct Runs {
     entries: Vec<Entry>,
     dead: usize,
     // The places behind the last run that was put and behind the last that was removed: where blocks are written over
-    // in order, the next ones stand there. Once the dead entries were taken away they may be wrong, which costs the next
-    // call a search by halves.
+    // in order, the next ones stand there. Once the dead entries were taken away they may be wrong, which costs the
+    // next call a search by halves.
     behind_put: usize,
     behind_removed: usize,
 }

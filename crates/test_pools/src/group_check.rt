@@ -35,8 +35,8 @@ impl Journaled<'_> {
         }
     }
 
-    /// Whether a group has the widths of the one before it or ends its expansion, or is that of an attach and widens the
-    /// pool.
+    /// Whether a group has the widths of the one before it or ends its expansion, or is that of an attach and widens
+    /// the pool.
     fn are_widths_right(&self, index: usize, before: &Group, group: &Group) -> bool {
         if self.is_of_attach(index, group) {
             widens_to(before, group, before.to.wrapping_add(1))

@@ -41,8 +41,8 @@ pub enum Wrong {
     Free,
     /// A sync doesn't name the group listed just before it, or that one was begun too early.
     Sync,
-    /// An attach doesn't name the group listed just before it, that one was begun too early, or it didn't widen the pool
-    /// to that width.
+    /// An attach doesn't name the group listed just before it, that one was begun too early, or it didn't widen the
+    /// pool to that width.
     Attach,
     /// An attach tells of an expansion, and the last group before it has none to that width.
     Expanding,

@@ -18,8 +18,8 @@ const MOST_CALLS: u64 = 10;
 /// How many calls more a client has where one copies.
 const MORE_BESIDE_COPY: u64 = 14;
 
-/// Fewest turns of an order, also where a client attaches a device: that alone takes some fifty. A copy takes some seven
-/// hundred.
+/// Fewest turns of an order, also where a client attaches a device: that alone takes some fifty. A copy takes some
+/// seven hundred.
 const TURNS: u64 = 54;
 
 const TURNS_WITH_ATTACH: u64 = 180;

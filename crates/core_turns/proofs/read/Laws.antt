@@ -7,7 +7,7 @@ use Rattle.core_turns.proofs.Words.{read_more, read_left_over, read_lost_few, Is
 use Rattle.core_turns.proofs.Words.{GetRun, OutOfMemory, Solved, NotYet, Bytes, Damaged, Turn, More, Busy, Done, Core}
 use Rattle.core_turns.proofs.Words.{CoreState, at_disk, pool_at, IsReadKind, HasTooManyOut, IsGetOf, BeginsGet}
 use Rattle.core_turns.proofs.Words.{ReadsTurn, IsSolved, SolvesGet, AnswersSolved, EndsGet, IsSolvedAs, HoldsGet}
-use Rattle.core_turns.proofs.Words.{FindsGet, KeepsGet, TellsGet, answer_of, to_solve_of}
+use Rattle.core_turns.proofs.Words.{FindsGet, KeepsGet, TellsGet, answer_of, to_solve_of, Answer, refl, turn_with}
 use Rattle.core_state.specs.declared.answer.Kind.TheVariants as kind
 
 -- A read that begins holds the block that the map has at its id.
@@ -50,6 +50,18 @@ get_reads {content} before after {run} (More next) front of place left unchanged
       solved = λ few. holds.solved reads.0;
     })
 get_reads before after other front of place left unchanged outs holds reads = tt
+
+-- So is one that was given an answer in its place.
+pub get_reads_or_ends : {content : List ℕ} (before after : CoreState) {run : GetRun} (next : GetRun)
+    (answer : Option Answer) → IsFrontOf before.core.pool.uber.reflow before.core.pool.done → IsGetOf before.core run
+    → (answer ≡ None → IsAtColumn run.read) → run.read.row < rows_of run.read.layout
+    → Unchanged before.disk after.disk
+    → OnlyFailedGoOut (point_of before.core.pool.out before.disk) (point_of after.core.pool.out after.disk)
+    → HoldsGet content before run → ReadsTurn before run after (turn_with next answer)
+    → KeepsGet content after (turn_with next answer)
+get_reads_or_ends before after next None front of place left unchanged outs holds reads =
+    get_reads before after (More next) front of (place refl) left unchanged outs holds reads
+get_reads_or_ends before after next (Some given) front of place left unchanged outs holds reads = tt
 
 -- What is solved of a block that was read whole is the block.
 pub get_solves : (content : List ℕ) (state : CoreState) (run next : GetRun) → run.read.row ≡ rows_of run.read.layout

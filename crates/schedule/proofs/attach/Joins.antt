@@ -1,6 +1,7 @@
 -- What the turn of an attach comes to in which its commit begins, among the other clients' calls.
 use Rattle.schedule.proofs.Words.{◌≡◌, ℕ, ◌-◌, List, Some, refl, sym, ◌∙◌, ap, subst, arith, slice_get}
-use Rattle.schedule.proofs.Words.{FreeDevice, JoinRun, Item, Kept, World, ScriptCall, Script, calls_of, width_step_where, Checked}
+use Rattle.schedule.proofs.Words.{FreeDevice, JoinRun, Item, Kept, World, ScriptCall, Script, calls_of}
+use Rattle.schedule.proofs.Words.{width_step_where, Checked}
 use Rattle.schedule.proofs.Words.{Joins, More, BeginsJoining, IsAttachRunOf, Core, attach_joins_stands}
 use Rattle.schedule.proofs.Words.{commit_begins_calls, few_out, Client, UnderWay, TakesTurn, IsBegunAt, HasDeviceUnder}
 use Rattle.schedule.proofs.Words.{LeavesGoing, TurnState, WorkGoesOn}

@@ -4,7 +4,8 @@ use Rattle.schedule.proofs.Words.{◌≡◌, arith, call_of_client, MakesCommit,
 use Rattle.schedule.proofs.Words.{sym, ◌∙◌, ap, subst, slice_get, Disk, Lawful, Unchanged, later_refl, Uber, ReadsSlot}
 use Rattle.schedule.proofs.Words.{RingRead, one_more_read, IsOnInUse, read_touches, unchanged_none, Answer, Entry, Item}
 use Rattle.schedule.proofs.Words.{Map, PutBytes, map_after_answer, map_of, World, ScriptCall, Script, calls_of}
-use Rattle.schedule.proofs.Words.{FreeDevice, AttachRun, Reads, Checked, Signs, More, Done, AttachGoesOn, FindsFree, HoldsAttach}
+use Rattle.schedule.proofs.Words.{FreeDevice, AttachRun, Reads, Checked, Signs, More, Done, AttachGoesOn, FindsFree}
+use Rattle.schedule.proofs.Words.{HoldsAttach}
 use Rattle.schedule.proofs.Words.{IsAttachRunOf, IsDeviceRefused, ReadsNext, StopsAttach, WaitsForCommit, attach_commit}
 use Rattle.schedule.proofs.Words.{IsSyncRefused, Core, CoreState, HasBankOf, IsCore, at_disk, HasTooManyOut, Stands}
 use Rattle.schedule.proofs.Words.{attaching_calls, attaching_stands, look_stands, attaching_commit, rests, since_read}

@@ -1,7 +1,8 @@
 -- Whose turn is next, and steps after steps.
 use Rattle.schedule.proofs.Words.{◌≡◌, ℕ, ◌+◌, ◌<◌, ◌≤◌, List, length, Option, Some, None, zero, suc, refl, arith, []}
 use Rattle.schedule.proofs.Words.{◌++◌, append_assoc, length-append, ◌∷◌, true, slice_get, le-ltb, ltb-true, ltb-false}
-use Rattle.schedule.proofs.Words.{Bool, lt-ltb, slice_get_within, append-nil, Script, Client, Goes, HasGone, InRest, InRound, Replay}
+use Rattle.schedule.proofs.Words.{Bool, lt-ltb, slice_get_within, append-nil, Script, Client, Goes, HasGone, InRest}
+use Rattle.schedule.proofs.Words.{InRound, Replay}
 use Rattle.schedule.proofs.Words.{ReplaySteps, after_round, has_left_at, is_any_busy, is_busy_at, turn_at, HaveTaken}
 use Rattle.schedule.proofs.Words.{IsTurnOf, IsStepOf, AreIdle, TurnTaken, Turns, last_left, has_turn_at, calls_of}
 use Rattle.std.proofs.Common.{append-nil}

@@ -6,7 +6,8 @@ use Rattle.schedule.proofs.Words.{fill_bytes, Script, calls_of, PutRun, More, Do
 use Rattle.schedule.proofs.Words.{Putting, AreCallsOf, Stands, TurnGoesOn, keeps_ended, Rearranges, ends_rearranges}
 use Rattle.schedule.proofs.Words.{gives_up_rearranges, put_ends_calls, put_gives_up_calls, put_writes_calls}
 use Rattle.schedule.proofs.Words.{put_ends_stands, put_gives_up_stands, put_shared, put_writes_stands, put_writes_since}
-use Rattle.schedule.proofs.Words.{Client, UnderWay, IsWorkFor, Runs, calls_under_way, setting_now, TurnState, EndsPutting}
+use Rattle.schedule.proofs.Words.{Client, UnderWay, IsWorkFor, Runs, calls_under_way, setting_now, TurnState}
+use Rattle.schedule.proofs.Words.{EndsPutting}
 use Rattle.schedule.proofs.Words.{GoesOnPutting, IsFilledIn, LeavesGoing, entry_for, made_by, IsWorldOf, TakesTurn}
 use Rattle.schedule.proofs.Words.{Past}
 use Rattle.core_state.specs.declared.answer.Answer.TheVariants as answer

@@ -5,7 +5,8 @@ use Rattle.schedule.proofs.Words.{later_trans, touches_then, touches_widen, coun
 use Rattle.schedule.proofs.Words.{Item, CallAt, World, point_of, outs_then, IsOnInUse, in_use_before, count_grows}
 use Rattle.schedule.proofs.Words.{WhyDropped, ScriptCall, Script, calls_of, grown_has, CoreState, HasBankOf}
 use Rattle.schedule.proofs.Words.{AttachGoesOn, TurnGoesOn, as_attach, turn_bank, turn_still, append-nil, AttachesNone}
-use Rattle.schedule.proofs.Words.{GoesOnFor, HasToBear, IsWorldOf, LeadTo, StoodAt, KeepsUsing, StaysAsWide, Turns, TurnTaken, last_left}
+use Rattle.schedule.proofs.Words.{GoesOnFor, HasToBear, IsWorldOf, LeadTo, StoodAt, KeepsUsing, StaysAsWide, Turns}
+use Rattle.schedule.proofs.Words.{TurnTaken, last_left}
 use Rattle.schedule.proofs.Words.{AreListedWith, HasDropCause, IsDropCause, IsToBeTold, IsDeviceCause, IsNumbered, Runs}
 use Rattle.schedule.proofs.Words.{Past}
 use Rattle.std.proofs.Common.{true}

@@ -1,5 +1,6 @@
 -- What stood before a turn of one client stands after it, where its call is answered.
-use Rattle.schedule.proofs.Words.{◌≡◌, TurnState, TakesTurn, ◌≢◌, ℕ, List, [], ◌∷◌, ◌++◌, Some, None, sym, subst, length}
+use Rattle.schedule.proofs.Words.{◌≡◌, TurnState, TakesTurn, ◌≢◌, ℕ, List, [], ◌∷◌, ◌++◌, Some, None, sym, subst}
+use Rattle.schedule.proofs.Words.{length}
 use Rattle.schedule.proofs.Words.{◌+◌, ◌-◌, ◌<◌, arith, ◌≤◌, length-append, Option, slice_get, Entry, Item, Group, Map}
 use Rattle.schedule.proofs.Words.{map_of, map_after_answer, IsAnswerOf, IsAttachOf, Kept, Knows, World, CommitRun}
 use Rattle.schedule.proofs.Words.{ScriptCall, Script, calls_of, map_grown_call, map_grown_group, AttachRun, CoreState}

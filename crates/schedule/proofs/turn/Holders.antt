@@ -1,6 +1,7 @@
 -- Whose holds the sectors of a core are, turn by turn: who copies some, and who shares some, is a client.
 use Rattle.schedule.proofs.Words.{AreCopiers, AreGoing, AreIdle, AreSharers, Changes, Client, Copies, CopyRun, Core}
-use Rattle.schedule.proofs.Words.{IsGoing, List, None, Option, Script, Some, TurnState, TakesTurn, UnderWay, Work, [], ap}
+use Rattle.schedule.proofs.Words.{IsGoing, List, None, Option, Script, Some, TurnState, TakesTurn, UnderWay, Work, []}
+use Rattle.schedule.proofs.Words.{ap}
 use Rattle.schedule.proofs.Words.{arith, calls_of, refl, shared_count, sharing_of, sharing_under, slice_get, suc, zero}
 use Rattle.schedule.proofs.Words.{ℕ, ◌+◌, ◌∷◌, ◌≡◌}
 use Rattle.schedule.specs.declared.client.Work.TheVariants as work

@@ -14,13 +14,13 @@ next_uber-next-requires-clause-few c =
 pub hold_change-requires-clause-clear : goal.hold_change-requires-clause-clear
 hold_change-requires-clause-clear c =
     begins_clear _ c.args.actor _ _ c.self.invariant c.entries-entries.ensures.table c.in_default.is
-    (few_out c.self.view_is c.has_too_many_out.ensures.1 c.if-has_too_many_out.false)
+    (few_out c.self.view_is c.has_too_many_out.ensures.many.1 c.if-has_too_many_out.false)
     (omega (arith, c.if-self.false)) c.reflow-before.ensures.value c.choose-chosen.ensures.choice
 
 pub new-requires-2-clause-right : goal.new-requires-2-clause-right
 new-requires-2-clause-right c = rw c.in-Ok-new.ensures.ok
     (begins_right _ c.args.actor _ _ c.self.invariant c.entries-entries.ensures.table c.in_default.is
-    (few_out c.self.view_is c.has_too_many_out.ensures.1 c.if-has_too_many_out.false)
+    (few_out c.self.view_is c.has_too_many_out.ensures.many.1 c.if-has_too_many_out.false)
     (omega (arith, c.if-self.false)) c.reflow-before.ensures.value c.choose-chosen.ensures.choice
     _ _ c.entries-entries.ensures.value c.next_uber-next.ensures)
 
@@ -33,7 +33,7 @@ invariant_of-self-2 c =
 pub returns-clause-begins : goal.returns-clause-begins
 returns-clause-begins c = rw (← c.self.view_is)
     (begins_so _ c.args.actor _ _ c.self.invariant c.entries-entries.ensures.table c.in_default.is
-    (few_out c.self.view_is c.has_too_many_out.ensures.1 c.if-has_too_many_out.false)
+    (few_out c.self.view_is c.has_too_many_out.ensures.many.1 c.if-has_too_many_out.false)
     (omega (arith, c.if-self.false)) c.reflow-before.ensures.value c.choose-chosen.ensures.choice
     _ _ c.entries-entries.ensures.value c.next_uber-next.ensures _ _ _ c.in-Ok-hold_change.ensures.ok
     c.in-Ok-from_slice.ensures.items (c.new-2.ensures.value ∙ ap (λ (uber : Uber). record {

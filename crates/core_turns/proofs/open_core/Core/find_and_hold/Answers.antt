@@ -5,7 +5,7 @@ use Rattle.core_turns.proofs.open_core.Core.find_and_hold.Goals as goal
 
 pub returns : goal.returns
 returns c = rw (← c.self.view_is) (get_begins c.args.id c.self.invariant c.get.ensures.step
-    (few_out c.self.view_is c.has_too_many_out.ensures.1 c.if-has_too_many_out.false) (sym c.in-Some.ensures.value)
+    (few_out c.self.view_is c.has_too_many_out.ensures.many.1 c.if-has_too_many_out.false) (sym c.in-Some.ensures.value)
     c.layout_of-layout.ensures c.alloc_size.ensures.value c.in-Ok-hold_shared.ensures.hold c.in-Ok.ensures
     c.in-Ok-hold_shared.ensures.ok c.in-Ok-hold_shared.ensures.clear)
 

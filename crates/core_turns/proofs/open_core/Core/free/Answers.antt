@@ -1,4 +1,4 @@
-use Rattle.core_turns.proofs.Words.{refl, sym, ◌∙◌, HoldsMap, pool_of, state_of, freed_holds, none_freed_holds}
+use Rattle.core_turns.proofs.Words.{arith, refl, sym, ◌∙◌, HoldsMap, pool_of, state_of, freed_holds, none_freed_holds}
 use Rattle.core_turns.proofs.read.Turns.{get_of}
 use Rattle.core_turns.proofs.open_core.Core.free.Goals as goal
 use Rattle.core_turns.proofs.open_core.Core.free.Goals.{in-Some, in-None}
@@ -21,3 +21,6 @@ returns-clause-gets c = λ run of. let old = rw (← c.self.view_is) at of in ge
 
 pub returns-clause-bank : goal.returns-clause-bank
 returns-clause-bank c = λ disk bank. rw (← c.self.view_is) at bank
+
+pub invariant_of-self : goal.invariant_of-self
+invariant_of-self c = let is = c.self.invariant in search (is.is, is.shared, is.copies, arith)

@@ -21,7 +21,7 @@ answer_group-requires-clause-of g c = (
 
 pub returns-in-Called-clause-steps : goal.returns-in-Called-clause-steps
 returns-in-Called-clause-steps g c = rw (← c.self.view_is) (
-  few_out c.self.view_is c.has_too_many_out.ensures.1 c.if-has_too_many_out.false,
+  few_out c.self.view_is c.has_too_many_out.ensures.many.1 c.if-has_too_many_out.false,
   c.in-Called.ensures.steps,
   refl,
   commit_stays _ c.args.run _ _ _ _ _ (rw (← c.self.view_is) at c.requires.of) c.step.ensures.steps

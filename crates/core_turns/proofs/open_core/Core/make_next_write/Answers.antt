@@ -13,4 +13,4 @@ invariant_of-self g c = put_writes_core _ c.in-Some.filled (has_left c.args.run.
 pub returns-clause-writes : goal.returns-clause-writes
 returns-clause-writes g c = rw (← c.self.view_is) (put_writes _ _
     (has_left c.args.run.now c.in-Some.is c.requires.left) c.step.ensures.step
-    (few_out c.self.view_is c.has_too_many_out.ensures.1 c.if-has_too_many_out.false) c.in-Some.is c.step.ensures.next)
+    (few_out c.self.view_is c.has_too_many_out.ensures.many.1 c.if-has_too_many_out.false) c.in-Some.is c.step.ensures.next)

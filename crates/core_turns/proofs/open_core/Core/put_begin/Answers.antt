@@ -16,14 +16,14 @@ hold_range-requires-clause-end c =
 pub returns-in-Err : goal.returns-in-Err
 returns-in-Err c = record {
   begins = rw (← c.self.view_is, c.refusal.ensures) (put_refused c.args.actor c.args.id c.args.len c.in-Err.refused
-      c.self.invariant (few_out c.self.view_is c.has_too_many_out.ensures.1 c.if-has_too_many_out.false)
+      c.self.invariant (few_out c.self.view_is c.has_too_many_out.ensures.many.1 c.if-has_too_many_out.false)
       c.in-Err.ensures.err c.in-Err.ensures.under_err c.begin_put.ensures.kept c.in-Err.ensures.cause);
 }
 
 pub returns-in_default : goal.returns-in_default
 returns-in_default c = record {
   begins = rw (← c.self.view_is) (
-    few_out c.self.view_is c.has_too_many_out.ensures.1 c.if-has_too_many_out.false,
+    few_out c.self.view_is c.has_too_many_out.ensures.many.1 c.if-has_too_many_out.false,
     put_dropped c.in-Ok.ensures.begins c.in-Ok.ensures.under c.begin_put.ensures.kept c.in-Ok.ensures.spares
         c.in_default.ensures c.give_up.ensures.parity c.give_up.ensures.births c.give_up.ensures.entries
         c.give_up.ensures.dropped c.give_up.ensures.under c.give_up.ensures.kept,
@@ -38,6 +38,9 @@ pub returns : goal.returns
 returns c = record {
   begins = rw (← c.self.view_is) (put_begins c.in-Ok.ensures.begins c.in-Ok.ensures.under c.begin_put.ensures.kept
       c.in-Ok.ensures.spares c.self.invariant
-      (few_out c.self.view_is c.has_too_many_out.ensures.1 c.if-has_too_many_out.false) c.requires.some c.requires.few
+      (few_out c.self.view_is c.has_too_many_out.ensures.many.1 c.if-has_too_many_out.false) c.requires.some c.requires.few
       c.in-Ok.ensures.range c.in-Ok.ensures.under_way c.in-Some.ensures.0 c.in-Some.ensures.1 c.reflow.ensures.value);
 }
+
+pub invariant_of-self-in_default : goal.invariant_of-self-in_default
+invariant_of-self-in_default c = let is = c.self.invariant in search (is.is, is.shared, is.copies, arith)

@@ -19,7 +19,7 @@ invariant_of-self c = put_end_core _ c.self.invariant (rw (← c.self.view_is) a
 pub returns : goal.returns
 returns c = record {
   ends = rw (← c.self.view_is) (put_stores (rw (← c.self.view_is) at c.requires.of)
-      (few_out c.self.view_is c.has_too_many_out.ensures.1 c.if-has_too_many_out.false) c.in-Some.is
+      (few_out c.self.view_is c.has_too_many_out.ensures.many.1 c.if-has_too_many_out.false) c.in-Some.is
       c.into_entry.ensures.value c.end.ensures.ends c.end_put.ensures.change c.end_put.ensures.reserved
       (rw (← c.end_put.ensures.was) c.end_put.ensures.held)
       c.end_put.ensures.parity c.end_put.ensures.births c.end_put.ensures.under c.end_put.ensures.kept);

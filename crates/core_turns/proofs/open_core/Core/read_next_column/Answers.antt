@@ -17,9 +17,3 @@ invariant_of-self-2 g c =
     let more = c.self.invariant.reach in
     core_out _ c.step.new.out c.self.invariant
     (c.step.ensures.below c.self.inside.reach (omega (arith, to, more)) c.self.invariant.below) c.step.ensures.out.still
-
-pub returns-then-has_too_many_out-clause-place : goal.returns-then-has_too_many_out-clause-place
-returns-then-has_too_many_out-clause-place g c = c.is_read.ensures.place
-
-pub returns-clause-place : goal.returns-clause-place
-returns-clause-place g c = c.is_read.ensures.place

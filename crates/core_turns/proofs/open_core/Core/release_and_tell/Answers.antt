@@ -17,7 +17,7 @@ pub returns : goal.returns
 returns c = rw (← c.self.view_is) (record {
   rest = refl;
   ends = c.end.ensures.ends;
-  too_many = λ many. absurd (true≢false (sym (c.has_too_many_out.ensures.1 many) ∙ c.if-has_too_many_out.false));
+  too_many = λ many. absurd (true≢false (sym (c.has_too_many_out.ensures.many.1 many) ∙ c.if-has_too_many_out.false));
   solved = λ _. elim c.match-replace.branch [
     | in-NotYet w ↦ rw (sym c.replace.ensures.value ∙ w.in-NotYet.is) w.result-is
     | in-Damaged w ↦ rw (sym c.replace.ensures.value ∙ w.in-Damaged.is) w.result-is

@@ -7,7 +7,7 @@ returns-then-has_too_many_out-clause-steps g c =
     rw (c.stop_attach-then-has_too_many_out.ensures.value ∙ ap Done c.too_many.ensures)
     (attach_too_many _ _ c.args.run c.stop_attach.inside.out
     (stops_attach c.args.self.now _ _ c.stop_attach-then-has_too_many_out.ensures.core)
-    (c.has_too_many_out.ensures.0 c.if-has_too_many_out.true)
+    (c.has_too_many_out.ensures.many.0 c.if-has_too_many_out.true)
     (ap (λ (core : Core). core.pool.out) c.stop_attach.view_is))
 
 pub returns-in-Checked-clause-steps : goal.returns-in-Checked-clause-steps
