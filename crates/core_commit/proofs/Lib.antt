@@ -16,7 +16,6 @@ pub mod CommitTurns
 pub mod Widening
 pub mod Outside
 pub mod Settled
-pub mod Narrowing
 pub mod JoinTurns
 pub mod Guests
 pub mod Joins

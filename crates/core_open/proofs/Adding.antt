@@ -1,5 +1,5 @@
 -- A run may begin on a bank that has further devices, or more sectors, than the one that kept the groups.
-use Rattle.std.proofs.Common.{get_or, ◌≡◌, ◌≢◌, ⊎_elim, ℕ, ◌<◌, ◌≤◌, List, ◌∷◌, refl, sym, ap, subst, arith}
+use Rattle.std.proofs.Common.{get_or, ◌≡◌, ◌≢◌, inl, inr, ⊎_elim, ℕ, ◌<◌, ◌≤◌, List, ◌∷◌, refl, sym, ap, subst, arith}
 use Rattle.std.specs.Prelude.{Contains, min}
 use Rattle.std.proofs.lemmas.Bool.{cases_lt}
 use Rattle.std.proofs.lemmas.Bool.Decides.{nat_tests}
@@ -10,8 +10,7 @@ use Rattle.block_record.specs.declared.entry.IndexEntry.{IndexEntry}
 use Rattle.uberblock_ring.specs.Uberblock.{Uber, encoded, slot_of}
 use Rattle.uberblock_ring.specs.Valid.{AreAlike}
 use Rattle.core_state.specs.Shown.{Gives, IsCandidate, Shape, Shows}
-use Rattle.core_state.specs.Choosing.{Names}
-use Rattle.core_state.specs.Keeps.{HasWidthIn, IsKept, IsNotOutvoted, Keeps, Kept, NamesOther, Setting}
+use Rattle.core_state.specs.Keeps.{HasWidthIn, IsKept, IsNotOutvoted, Keeps, Kept, MayVoteFor, Setting}
 use Rattle.core_state.specs.Collision.{HasNoOtherPage, MightStand}
 use Rattle.core_state.proofs.Places.{asks_device, right_widths}
 use Rattle.core_open.specs.Holds.{HoldsImage, shape_of}
@@ -132,7 +131,8 @@ module _ (setting : Setting) (shape : Shape) (devices : setting.shape.devices �
     inside = λ device low works.
         let read = keeps.inside device low works in
         let more = more_read setting.shape.devices shape.devices devices in omega (arith, read, more);
-    own = λ device uber low shows. keeps.own device uber low (back device uber (omega (arith, low, pool)) shows);
+    own = λ device uber low works shows.
+        keeps.own device uber low works (back device uber (omega (arith, low, pool)) shows);
     votes = votes;
   }
     where
@@ -195,23 +195,39 @@ module _ (setting : Setting) (first : Kept) (later : List Kept) (old new : Disk)
     (may : MayBegin setting first later old) (begins : ExtendsBank old new) (pool : setting.reach ≤ old.devices)
     (none : (image : Image) (device : ℕ) (uber : Uber) → MightStand (shape_of new) new new.clock image
     → old.devices ≤ device → Shows (shape_of new) image device uber → ⊥) where
-  named_before : (image : Image) → MightStand (shape_of new) new new.clock image → 32 ≤ old.sectors → (other device : ℕ)
-      → NamesOther (setting_on setting new) image other device → NamesOther setting image other device
-  named_before image might enough other device names = record {
-    outside = names.outside;
-    names = subst (λ (s : Shape). Names s 0 image other device) (sym may.may.shape) (record {
-      reads = names.names.reads;
-      uber = names.names.uber;
-      shows = ⊎_elim
-          (λ (inside : device < old.devices). narrower_shows (shape_of old) (shape_of new) begins.devices begins.sectors
-          image enough device names.names.uber inside names.names.shows)
-          (λ (outside : old.devices ≤ device). absurd (none image device names.names.uber might outside names.names.shows))
-          (cases_lt device old.devices);
-      greatest = λ uber shows. names.names.greatest uber
-          (wider_shows (shape_of old) (shape_of new) begins.devices begins.sectors image device uber shows);
-      pool_is = names.names.pool_is;
-    });
-  }
+  shown_before : (image : Image) (device : ℕ) (uber : Uber) → MightStand (shape_of new) new new.clock image
+      → 32 ≤ old.sectors → Shows (shape_of new) image device uber → Shows setting.shape image device uber
+  shown_before image device uber might enough shows =
+      subst (λ (s : Shape). Shows s image device uber) (sym may.may.shape) (⊎_elim
+      (λ (inside : device < old.devices). narrower_shows (shape_of old) (shape_of new) begins.devices begins.sectors
+      image enough device uber inside shows)
+      (λ (outside : old.devices ≤ device). absurd (none image device uber might outside shows))
+      (cases_lt device old.devices))
+
+  shown_still : (image : Image) (device : ℕ) (uber : Uber) → Shows setting.shape image device uber
+      → Shows (shape_of new) image device uber
+  shown_still image device uber shows = wider_shows (shape_of old) (shape_of new) begins.devices begins.sectors image
+      device uber (subst (λ (s : Shape). Shows s image device uber) may.may.shape shows)
+
+  voted_before : (image : Image) → MightStand (shape_of new) new new.clock image → 32 ≤ old.sectors → (other device : ℕ)
+      → MayVoteFor (setting_on setting new) image other device → MayVoteFor setting image other device
+  voted_before image might enough other device (inl out) = inl (record {
+    outside = out.outside;
+    names = record {
+      reads = out.names.reads;
+      uber = out.names.uber;
+      shows = shown_before image device out.names.uber might enough out.names.shows;
+      greatest = λ uber shows. out.names.greatest uber (shown_still image device uber shows);
+      pool_is = out.names.pool_is;
+    };
+  })
+  voted_before image might enough other device (inr gone) = inr (record {
+    within = gone.within;
+    failed = gone.failed;
+    uber = gone.uber;
+    shows = shown_before image device gone.uber might enough gone.shows;
+    pool_is = gone.pool_is;
+  })
 
   -- Law: Devices that show no uberblock may be added to a bank that keeps groups.
   pub blank_devices_may_be_added : Tells new
@@ -227,7 +243,8 @@ module _ (setting : Setting) (first : Kept) (later : List Kept) (old new : Disk)
         let sectors = ap (λ (s : Shape). s.sectors) may.may.shape in
         let room = keeps.there.shown.2.room in
         keeps.votes other others apart distinct
-        (λ k d within. named_before image might (omega (arith, room, sectors)) other (get_or others k d) (named k d within));
+        (λ k d within. voted_before image might (omega (arith, room, sectors)) other (get_or others k d)
+        (named k d within));
     tells = tells;
     pages = pages;
   }

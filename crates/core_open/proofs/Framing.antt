@@ -1,6 +1,6 @@
 -- What an image keeps depends on the sectors of its bank alone.
-use Rattle.std.proofs.Common.{◌≡◌, inr, ⊎_elim, ℕ, zero, suc, ◌+◌, ◌<◌, ◌≤◌, List, ◌∷◌, ◌++◌, length, Some, refl, sym}
-use Rattle.std.proofs.Common.{◌∙◌, ap, arith, []}
+use Rattle.std.proofs.Common.{◌≡◌, inl, inr, ⊎_elim, ℕ, zero, suc, ◌+◌, ◌<◌, ◌≤◌, List, ◌∷◌, ◌++◌, length, Some, refl}
+use Rattle.std.proofs.Common.{sym, ◌∙◌, ap, arith, []}
 use Rattle.std.proofs.lemmas.Bool.{cases_lt}
 use Rattle.sha2.specs.Sha256.{sha256}
 use Rattle.bank_trait.specs.Disk.{Image}
@@ -19,7 +19,7 @@ use Rattle.core_state.specs.Map.{Map}
 use Rattle.core_state.specs.Shown.{Shape, Shows, Gives, IsCandidate, page_on, sectors_from}
 use Rattle.core_state.specs.Choosing.{Names}
 use Rattle.core_state.specs.Whole.{Cell, IsCellOf, known_of}
-use Rattle.core_state.specs.Keeps.{Kept, Setting, Keeps, IsKept, NamesOther, ShowsGroup}
+use Rattle.core_state.specs.Keeps.{Kept, Setting, Keeps, IsKept, MayVoteFor, ShowsGroup}
 use Rattle.core_state.specs.Collision.{HasNoOtherPage}
 use Rattle.core_state.proofs.Listed.{contains_head}
 use Rattle.core_state.proofs.Reader.{shown_alike}
@@ -190,12 +190,18 @@ module _ (setting : Setting) (first : Kept) (later : List Kept) (one other : Ima
         (shows_on setting.shape other one shower uber (same_back same) shows) inside pool_is group (ap sha256 page ∙ digest);
   }
 
-  names_other : (pool device : ℕ) → NamesOther setting other pool device
-      → NamesOther setting one pool device
-  names_other pool device names = record {
-    outside = names.outside;
-    names = names_on setting.shape 0 other one pool device (same_back same) names.names;
-  }
+  votes_back : (pool device : ℕ) → MayVoteFor setting other pool device → MayVoteFor setting one pool device
+  votes_back pool device (inl out) = inl (record {
+    outside = out.outside;
+    names = names_on setting.shape 0 other one pool device (same_back same) out.names;
+  })
+  votes_back pool device (inr gone) = inr (record {
+    within = gone.within;
+    failed = gone.failed;
+    uber = gone.uber;
+    shows = shows_on setting.shape other one device gone.uber (same_back same) gone.shows;
+    pool_is = gone.pool_is;
+  })
 
   pub keeps_same : Keeps setting first later other
   keeps_same = record {
@@ -214,8 +220,8 @@ module _ (setting : Setting) (first : Kept) (later : List Kept) (one other : Ima
     further = keeps.further;
     widths = keeps.widths;
     inside = keeps.inside;
-    own = λ device uber below shows. keeps.own device uber below
+    own = λ device uber below works shows. keeps.own device uber below works
         (shows_on setting.shape other one device uber (same_back same) shows);
     votes = λ pool devices differs distinct each. keeps.votes pool devices differs distinct
-        (λ k device low. names_other pool _ (each k device low));
+        (λ k device low. votes_back pool _ (each k device low));
   }

@@ -27,6 +27,7 @@ since_longer setting groups more time disk since = record {
       row = ap (λ (g : List Kept). g ++ more) some.row
           ∙ append_assoc (some.before ++ (some.first ∷ some.later)) some.after more;
       reach = some.reach;
+      no_further = some.no_further;
       keeps = some.keeps;
     }
 

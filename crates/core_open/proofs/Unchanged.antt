@@ -6,6 +6,7 @@ use Rattle.bank_trait.proofs.Moments.{later_refl, later_trans}
 use Rattle.core_state.specs.Keeps.{Kept, Setting}
 use Rattle.core_state.specs.Collision.{BankKeeps}
 use Rattle.core_state.specs.Moment.{KeepsSince}
+use Rattle.core_state.proofs.Reaching.{widest_reach, reaches_no_further, keeps_to_reach}
 use Rattle.core_state.proofs.Since.{might_at}
 use Rattle.core_open.specs.declared.ring_uber.RingUber.{RingUber}
 use Rattle.core_open.specs.Candidates.{FirstHasRoom}
@@ -86,9 +87,11 @@ unchanged_keeps setting first later joined {old = old} {new = new} same keeps = 
     later = later;
     after = joined;
     row = refl;
-    reach = setting.reach;
-    keeps = λ image might. keeps image (might_at setting.shape new old moment old.clock image
-        (at moment (omega (arith, since, until, same.clock)) (omega (arith, since, until, same.clock))) might);
+    reach = widest_reach first later;
+    no_further = reaches_no_further first later;
+    keeps = λ image might. keeps_to_reach setting first later image
+        (keeps image (might_at setting.shape new old moment old.clock image
+        (at moment (omega (arith, since, until, same.clock)) (omega (arith, since, until, same.clock))) might));
   };
 }
   where

@@ -18,7 +18,6 @@ use Rattle.core_state.proofs.Fresh.{none_in}
 use Rattle.core_state.proofs.Keeping.{knows_keep}
 use Rattle.core_state.proofs.Knowing.{present, present_might}
 use Rattle.core_state.proofs.PoolChosen.{pool_there}
-use Rattle.core_state.proofs.Widths.{below_first}
 use Rattle.core_open.specs.declared.opening.Opened.{Opened}
 use Rattle.core_open.specs.declared.why.OpenWhy.{OpenWhy}
 use Rattle.core_open.specs.declared.why.OpenWhy.TheVariants as reason
@@ -70,7 +69,6 @@ module _ (setting : Setting) (first : Kept) (later : List Kept) (old new : Disk)
   is_pool : IsNotPool setting.shape 0 image → ⊥
   is_pool none = pool_there setting first later image keeps 0
       (λ device below gone. absurd (true_false (sym gone ∙ none_in device)))
-      knows.row.device (below_first setting first later knows.row.device knows.row.widths knows.row.below) knows.row.works
       (λ chosen. none.none setting.pool keeps.there.device keeps.there.shown.0 first.entries chosen
       (none_in keeps.there.device) keeps.there.shown.2)
 

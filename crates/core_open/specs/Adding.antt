@@ -24,8 +24,8 @@ pub record ExtendsBank (old new : Disk) : Type 0 where
 abbrev pub setting_on : Setting → Disk → Setting
 setting_on setting disk = record setting { shape = shape_of disk }
 
--- Its further devices show no uberblock of the pool, and no other pool is named by more devices outside than are left
--- of this one. It tells what it holds, and no page in that is another's by chance.
+-- Its further devices show no uberblock of the pool, and with them too the devices that are left of this pool outvote
+-- each other one. It tells what it holds, and no page in that is another's by chance.
 pub record MayBeAdded (setting : Setting) (groups : List Kept) (old new : Disk) : Type 0 where
   pub begins : ExtendsBank old new
   pub pool : setting.reach ≤ old.devices

@@ -381,10 +381,10 @@ module _ (setting : Setting) (first : Kept) (later : List Kept) (disk : Disk)
           absurd (omega (arith, long))
 
   own_from : (d : ℕ) (uber : Uber) → IsAble setting.shape disk d uber
-      → d < setting.reach
+      → d < setting.reach → has_device setting.failed d ≡ false
       → uber.pool ≡ setting.pool
-  own_from d uber is below =
-      (keeps (showing d uber) (showing_might d uber is)).own d uber below (showing_shows d uber is)
+  own_from d uber is below works =
+      (keeps (showing d uber) (showing_might d uber is)).own d uber below works (showing_shows d uber is)
 
   -- Some device of the pool has not failed.
   some_works : (device : ℕ) × (device < setting.base) × (has_device setting.failed device ≡ false)

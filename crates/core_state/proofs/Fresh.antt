@@ -1,6 +1,6 @@
 -- Each image of a new pool keeps its first group.
 use Rattle.std.proofs.Common.{◌≡◌, ◌≢◌, ℕ, zero, suc, ◌+◌, ◌-◌, ◌/◌, ◌%◌, ◌^◌, ◌<◌, ◌≤◌, Bool, true, false, List, []}
-use Rattle.std.proofs.Common.{◌∷◌, Some, None, refl, sym, ◌∙◌, ap, subst, arith, inl, ⊎_elim, mod-lt}
+use Rattle.std.proofs.Common.{◌∷◌, Some, None, refl, sym, ◌∙◌, ap, subst, arith, inl, inr, ⊎_elim, mod-lt}
 use Rattle.std.specs.Prelude.{min, slice_index, ◌==◌, if◌then◌else◌}
 use Rattle.std.proofs.Math.Nat.{zero-div, one-le-pow}
 use Rattle.std.proofs.lemmas.Bool.{cases_lt, cases_eq}
@@ -16,11 +16,11 @@ use Rattle.uberblock_ring.proofs.OneSpelling.{encoded_tells}
 use Rattle.core_state.specs.Map.{no_blocks}
 use Rattle.core_state.specs.Index.{IsFitting}
 use Rattle.core_state.specs.Shown.{Shape, Shows, Gives, page_on}
-use Rattle.core_state.specs.Choosing.{Names}
 use Rattle.core_state.specs.Whole.{IsWhole}
 use Rattle.core_state.specs.Keeps.{Setting, Keeps, IsKept, ShowsOnly, StandsThere, ShowsCandidate, IsNotOutvoted}
-use Rattle.core_state.specs.Keeps.{HasDevices, Kept}
+use Rattle.core_state.specs.Keeps.{HasDevices, Kept, MayVoteFor}
 use Rattle.core_state.specs.Create.{IsNew, new_ring, rows_for, first_kept}
+use Rattle.core_state.proofs.Left.{left_has}
 use Rattle.core_state.proofs.Widths.{only_width}
 
 -- The empty set has no device.
@@ -205,29 +205,38 @@ module _ (setting : Setting) (parity width : ℕ) (image : Image) (sized : IsSiz
   shown_only device uber above shows pool_is =
       subst (λ (u : Uber). IsKept setting image (group_0 ∷ []) u) (sym (is_0 device uber shows)) kept_0
 
-  -- Some device of the pool works.
-  works : (device : ℕ) × (device < width) × (has_device setting.failed device ≡ false)
+  -- Some device of the least width works.
+  works : (device : ℕ) × (device < setting.base) × (has_device setting.failed device ≡ false)
   works =
-      let rest : width + (16 - width) ≡ 16 = omega (arith, sized.width_in) in
-      let all : count_below setting.failed (width + (16 - width)) ≡ count_below setting.failed 16 = ap (count_below setting.failed) rest in
-      lacks_one setting.failed width (omega (arith, all, few, sized.width_in, count_grows setting.failed width (16 - width)))
+      let rest : setting.base + (16 - setting.base) ≡ 16 = omega (arith, least, sized.width_in) in
+      let all : count_below setting.failed (setting.base + (16 - setting.base)) ≡ count_below setting.failed 16 =
+      ap (count_below setting.failed) rest in
+      lacks_one setting.failed setting.base
+      (omega (arith, all, few, wide, count_grows setting.failed setting.base (16 - setting.base)))
 
   there_0 : StandsThere setting group_0 image
   there_0 = record {
     device = works.0;
     works = works.2;
-    shown = (uber_0, refl, candidate_0 works.0 works.1);
+    shown = (uber_0, refl, candidate_0 works.0 (omega (arith, works.1, least)));
     each = λ other below fine. (uber_0, refl, candidate_0 other below);
     pages = λ other below fine. gives_0 other (omega (arith, below, sized.devices, sized.width_in));
   }
 
-  -- No device names another pool.
+  -- No device votes for another pool.
   votes_0 : IsNotOutvoted setting image
-  votes_0 other [] differs distinct each = omega arith
-  votes_0 other (device ∷ others) differs distinct each =
-      let names : Names setting.shape 0 image other device = (each 0 device (omega arith)).names in
-      let same : names.uber.pool ≡ setting.pool = ap (λ (u : Uber). u.pool) (is_0 device names.uber names.shows) in
-      absurd (differs (sym names.pool_is ∙ same))
+  votes_0 other [] differs distinct each =
+      let left = left_has setting.failed setting.base works.0 works.1 works.2 in inl (omega (arith, left.1))
+  votes_0 other (device ∷ others) differs distinct each = absurd (none (each 0 device (omega arith)))
+    where
+      none : MayVoteFor setting image other device → ⊥
+      none (inl out) =
+          let same : out.names.uber.pool ≡ setting.pool =
+          ap (λ (u : Uber). u.pool) (is_0 device out.names.uber out.names.shows) in
+          differs (sym out.names.pool_is ∙ same)
+      none (inr lost) =
+          let same : lost.uber.pool ≡ setting.pool = ap (λ (u : Uber). u.pool) (is_0 device lost.uber lost.shows) in
+          differs (sym lost.pool_is ∙ same)
 
   -- Each image of a new pool keeps its first group, whichever devices fail, at most as many as there is parity.
   pub fresh_keeps : Keeps setting group_0 [] image
@@ -240,6 +249,6 @@ module _ (setting : Setting) (parity width : ℕ) (image : Image) (sized : IsSiz
     further = λ k d low. absurd (omega (arith, low));
     widths = only_width setting group_0 (record { least = least; most = most });
     inside = inside;
-    own = λ device uber below shows. ap (λ (u : Uber). u.pool) (is_0 device uber shows);
+    own = λ device uber below left shows. ap (λ (u : Uber). u.pool) (is_0 device uber shows);
     votes = votes_0;
   }

@@ -1,16 +1,19 @@
--- A device joins the pool: first the pool may reach to it, and once each group of the row has it the pool
--- has it at least.
-use Rattle.std.proofs.Common.{◌≡◌, ⊎_elim, ℕ, ◌+◌, ◌<◌, ◌≤◌, List, ◌∷◌, Some, subst, arith, All}
+-- How far a pool reaches. A device joins it: first the pool may reach to it, and once each group of the row has it the
+-- pool has it at least. A pool that reaches no further than its groups do is known as well where it was said to.
+use Rattle.std.proofs.Common.{◌≡◌, inl, inr, ⊎_elim, ℕ, ◌+◌, ◌<◌, ◌≤◌, List, ◌∷◌, false, Some}
+use Rattle.std.proofs.Common.{subst, arith, All}
 use Rattle.std.specs.Prelude.{Contains}
 use Rattle.std.proofs.lemmas.Bool.{cases_lt}
 use Rattle.bank_trait.specs.Disk.{Image, Disk}
+use Rattle.uberblock_ring.specs.Devices.{has_device}
 use Rattle.uberblock_ring.specs.Uberblock.{Uber, encoded, slot_of}
 use Rattle.uberblock_ring.specs.Valid.{IsRightUber}
-use Rattle.core_state.specs.Shown.{read_devices}
-use Rattle.core_state.specs.Keeps.{Kept, Setting, IsNotOutvoted}
+use Rattle.core_state.specs.Shown.{Shape, Shows, read_devices}
+use Rattle.core_state.specs.Keeps.{Kept, Setting, IsNotOutvoted, MayVoteFor}
 use Rattle.core_state.specs.Collision.{MightStand}
 use Rattle.core_state.specs.Certain.{Knows, IsAble, IsSuccession, able}
-use Rattle.core_state.proofs.PoolChosen.{left_more}
+use Rattle.core_state.proofs.Left.{outvotes_more}
+use Rattle.core_state.proofs.Reaching.{votes_less}
 
 -- A ring can hold nothing but what is read of it: no write to it is still to be synced.
 pub record IsRingSettled (disk : Disk) (device : ℕ) : Type 0 where
@@ -22,14 +25,15 @@ pub record ReadsNoUber (disk : Disk) (device : ℕ) : Type 0 where
   pub none : (uber : Uber) → IsRightUber uber → disk.reads device (slot_of uber.group) ≡ Some (encoded uber device)
       → ⊥
 
--- What is certain does not depend on how many devices the pool has at least and at most, but for the row, the
--- devices' own pool and the votes.
 module _ (setting : Setting) (base reach : ℕ) (first : Kept) (later : List Kept) (disk : Disk) where
   abbrev other : Setting
   other = record setting { base = base; reach = reach }
 
+  -- What is certain does not depend on how many devices the pool has at least and at most, but for the row, the
+  -- devices' own pool and the votes.
   knows_in : IsSuccession other first later
-      → ((device : ℕ) (uber : Uber) → IsAble setting.shape disk device uber → device < reach → uber.pool ≡ setting.pool)
+      → ((device : ℕ) (uber : Uber) → IsAble setting.shape disk device uber → device < reach
+      → has_device setting.failed device ≡ false → uber.pool ≡ setting.pool)
       → ((image : Image) → MightStand setting.shape disk disk.clock image → IsNotOutvoted other image)
       → Knows setting first later disk
       → Knows other first later disk
@@ -62,6 +66,16 @@ module _ (setting : Setting) (base reach : ℕ) (first : Kept) (later : List Kep
     votes = votes;
   }
 
+-- What an image that might stand shows is able to stand.
+able_shown : (shape : Shape) (disk : Disk) (image : Image) (device : ℕ) (uber : Uber)
+    → MightStand shape disk disk.clock image → Shows shape image device uber → IsAble shape disk device uber
+able_shown shape disk image device uber might shows = record {
+  device_in = shows.device_in;
+  slot_in = shows.slot_in;
+  right = shows.valid.right;
+  could = might.written.ring device uber shows;
+}
+
 -- Law: A pool may reach to one device more, whose ring is settled and shows no uberblock.
 pub reach_more : (setting : Setting) (first : Kept) (later : List Kept) (disk : Disk)
     → IsRingSettled disk setting.reach → ReadsNoUber disk setting.reach → setting.reach < read_devices setting.shape
@@ -82,14 +96,61 @@ reach_more setting first later disk settled blank there knows =
       below = knows.row.below;
       works = knows.row.works;
     })
-    (λ device uber is below. ⊎_elim (λ (old : device < setting.reach). knows.own device uber is old)
-    (λ (new : setting.reach ≤ device). let same : device ≡ setting.reach = omega (arith, below, new) in
-    absurd (blank.none uber is.right (settled.only (slot_of uber.group) (encoded uber setting.reach) (omega arith)
-    (subst (λ d. Contains (able disk d (slot_of uber.group)) (encoded uber d)) same is.could))))
+    (λ device uber is below works. ⊎_elim (λ (old : device < setting.reach). knows.own device uber is old works)
+    (λ (new : setting.reach ≤ device). absurd (none device uber is (omega (arith, below, new))))
     (cases_lt device setting.reach))
     (λ image might pool devices differs distinct each. knows.votes image might pool devices differs distinct
-    (λ place default low. let names = each place default low in
-    record { outside = (let out = names.outside in omega (arith, out)); names = names.names }))
+    (λ place default low. voted image might pool (each place default low)))
+    knows
+  where
+    none : (device : ℕ) (uber : Uber) → IsAble setting.shape disk device uber → device ≡ setting.reach → ⊥
+    none device uber is same = blank.none uber is.right
+        (settled.only (slot_of uber.group) (encoded uber setting.reach) (omega arith)
+        (subst (λ d. Contains (able disk d (slot_of uber.group)) (encoded uber d)) same is.could))
+
+    voted : (image : Image) → MightStand setting.shape disk disk.clock image → (pool : ℕ) {device : ℕ}
+        → MayVoteFor (record setting { reach = setting.reach + 1 }) image pool device
+        → MayVoteFor setting image pool device
+    voted image might pool (inl out) =
+        inl (record { outside = (let outside = out.outside in omega (arith, outside)); names = out.names })
+    voted image might pool {device} (inr gone) = ⊎_elim
+        (λ (old : device < setting.reach).
+        inr (record {
+          within = old;
+          failed = gone.failed;
+          uber = gone.uber;
+          shows = gone.shows;
+          pool_is = gone.pool_is;
+        }))
+        (λ (new : setting.reach ≤ device). let within = gone.within in
+        absurd (none device gone.uber (able_shown setting.shape disk image device gone.uber might gone.shows)
+        (omega (arith, within, new))))
+        (cases_lt device setting.reach)
+
+-- Law: A pool that was said to reach further than its groups do reaches as far as they do.
+pub reach_less : (setting : Setting) (first : Kept) (later : List Kept) (disk : Disk) (reach : ℕ)
+    → reach ≤ setting.reach → All (λ (kept : Kept). kept.uber.reflow.to ≤ reach) (first ∷ later)
+    → Knows setting first later disk
+    → Knows (record setting { reach = reach }) first later disk
+reach_less setting first later disk reach less widths knows =
+    knows_in setting setting.base reach first later disk
+    (record {
+      few = knows.row.few;
+      wide = knows.row.wide;
+      ascending = knows.row.ascending;
+      further = knows.row.further;
+      widths = λ place kept low.
+          record { least = (knows.row.widths place kept low).least; most = widths place kept low };
+      inside = λ device below works. knows.row.inside device (omega (arith, below, less)) works;
+      device = knows.row.device;
+      below = knows.row.below;
+      works = knows.row.works;
+    })
+    (λ device uber is below works. knows.own device uber is (omega (arith, below, less)) works)
+    (λ image might. votes_less setting reach less image
+    (λ device uber below works shows.
+    knows.own device uber (able_shown setting.shape disk image device uber might shows) below works)
+    (knows.votes image might))
     knows
 
 -- Law: Once each group of the row has a device, the pool has it at least.
@@ -104,7 +165,8 @@ base_more setting first later disk base more widths knows =
       wide = (let wide = knows.row.wide in omega (arith, wide, more));
       ascending = knows.row.ascending;
       further = knows.row.further;
-      widths = λ place kept low. record { least = widths place kept low; most = (knows.row.widths place kept low).most };
+      widths = λ place kept low.
+          record { least = widths place kept low; most = (knows.row.widths place kept low).most };
       inside = knows.row.inside;
       device = knows.row.device;
       below = (let below = knows.row.below in omega (arith, below, more));
@@ -112,8 +174,18 @@ base_more setting first later disk base more widths knows =
     })
     knows.own
     (λ image might pool devices differs distinct each.
-    let few = knows.votes image might pool devices differs distinct
-    (λ place default low. let names = each place default low in record { outside = names.outside; names = names.names }) in
-    let left = left_more setting.failed setting.base base more in
-    omega (arith, few, left))
+    outvotes_more setting.failed setting.base base devices more
+    (knows.votes image might pool devices differs distinct
+    (λ place default low. voted image pool (each place default low))))
     knows
+  where
+    voted : (image : Image) (pool : ℕ) {device : ℕ} → MayVoteFor (record setting { base = base }) image pool device
+        → MayVoteFor setting image pool device
+    voted image pool (inl out) = inl (record { outside = out.outside; names = out.names })
+    voted image pool (inr gone) = inr (record {
+      within = gone.within;
+      failed = gone.failed;
+      uber = gone.uber;
+      shows = gone.shows;
+      pool_is = gone.pool_is;
+    })

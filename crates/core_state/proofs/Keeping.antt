@@ -179,13 +179,13 @@ module _ (setting : Setting) (first : Kept) (later : List Kept) (disk : Disk)
     further = knows.row.further;
     widths = knows.row.widths;
     inside = knows.row.inside;
-    own = λ device uber below shows. knows.own device uber
+    own = λ device uber below works shows. knows.own device uber
         (record {
           device_in = shows.device_in;
           slot_in = shows.slot_in;
           right = shows.valid.right;
           could = might.written.ring device uber shows;
-        }) below;
+        }) below works;
     votes = knows.votes image might;
   }
 

@@ -1,21 +1,23 @@
 -- What a device call leaves of what is certain of the groups.
 use Rattle.std.proofs.Common.{◌≡◌, ◌≢◌, ◌⊎◌, inl, inr, ⊎_elim, ℕ, ◌+◌, ◌<◌, ◌≤◌, List, [], ◌∷◌, Bool, true, false}
 use Rattle.std.proofs.Common.{Option, Some, None, Result, refl, sym, ◌∙◌, ap, subst, arith}
-use Rattle.std.specs.Prelude.{Contains, slice_index, unwrap_or, if◌then◌else◌, nat_lt}
-use Rattle.std.proofs.lemmas.Bool.{cases_lt, cases_eq}
-use Rattle.std.proofs.lemmas.Bool.Decides.{nat_tests}
+use Rattle.std.specs.Prelude.{Contains, slice_index, unwrap_or, if◌then◌else◌, bytes_eq}
+use Rattle.std.specs.List.{list_any}
+use Rattle.std.specs.Cmp.Lexicographic.{same_text}
+use Rattle.std.proofs.lemmas.Bool.{cases_eq}
+use Rattle.std.proofs.lemmas.Cmp.{nat_list_eq_equiv}
+use Rattle.std.proofs.lemmas.Map.Views.{Contains-from_any, list_any-from_Contains}
 use Rattle.std.proofs.lemmas.Option.{slice_get_within}
 use Rattle.bank_trait.specs.declared.Failed.{Failed}
-use Rattle.bank_trait.specs.Disk.{Image, Disk, Fits, Wrote, Lawful}
+use Rattle.bank_trait.specs.Disk.{Image, Disk, Wrote, Lawful}
 use Rattle.block_record.specs.Page.{page_sectors}
 use Rattle.uberblock_ring.specs.Devices.{has_device}
 use Rattle.uberblock_ring.specs.Uberblock.{Uber, encoded, slot_of, area_sector}
 use Rattle.uberblock_ring.specs.Valid.{IsRightUber}
 use Rattle.uberblock_ring.proofs.OneSpelling.{encoded_tells}
 use Rattle.core_state.specs.Shown.{Shape, Shows}
-use Rattle.core_state.specs.Choosing.{Names}
 use Rattle.core_state.specs.Whole.{Excepted}
-use Rattle.core_state.specs.Keeps.{Kept, Setting, IsNotOutvoted}
+use Rattle.core_state.specs.Keeps.{Kept, Setting, IsNotOutvoted, MayVoteFor}
 use Rattle.core_state.specs.Collision.{MightStand}
 use Rattle.core_state.specs.Certain.{Asks, CellsOn, PageOn, SlotOn, IsAble, IsCertain, Knows, certain, able}
 use Rattle.core_state.specs.Free.{IsSpare}
@@ -52,7 +54,7 @@ present_might shape disk lawful = record {
     by d uber (Some b) is shown = lawful.reads_could d (slot_of uber.group) (encoded uber d)
         (is ∙ ap (λ (k : List ℕ). Some k) (sym (ap (λ k. unwrap_or k []) is) ∙ shown))
 
--- A device names the same pool in two images in which it has the same ring.
+-- A device shows the same uberblock in two images in which it has the same ring.
 pub shows_same : (shape : Shape) (image other : Image) (device : ℕ) (uber : Uber)
     → ((slot : ℕ) → slot < 32 → image device slot ≡ other device slot)
     → Shows shape image device uber
@@ -67,88 +69,147 @@ shows_same shape image other device uber same shows = record {
   };
 }
 
-names_same : (shape : Shape) (silent : ℕ) (image other : Image) (pool device : ℕ)
-    → ((slot : ℕ) → slot < 32 → image device slot ≡ other device slot)
-    → Names shape silent image pool device
-    → Names shape silent other pool device
-names_same shape silent image other pool device same names = record {
-  reads = names.reads;
-  uber = names.uber;
-  shows = shows_same shape image other device names.uber same names.shows;
-  greatest = λ later shows. names.greatest later
-      (shows_same shape other image device later (λ slot low. sym (same slot low)) shows);
-  pool_is = names.pool_is;
+-- the bytes where they are among these, else none
+abbrev if_among : List (List ℕ) → List ℕ → List ℕ
+if_among held bytes = if list_any (bytes_eq bytes) held then bytes else []
+
+among_same : (held : List (List ℕ)) (bytes : List ℕ) → Contains held bytes → if_among held bytes ≡ bytes
+among_same held bytes has =
+    ap (λ (b : Bool). if b then bytes else []) (list_any-from_Contains nat_list_eq_equiv bytes held has)
+
+among_some : (held : List (List ℕ)) (bytes : List ℕ) → (if_among held bytes ≡ [] → ⊥)
+    → Contains held bytes × (if_among held bytes ≡ bytes)
+among_some held bytes some = by (list_any (bytes_eq bytes) held) refl some
+  where
+    by : (b : Bool) → list_any (bytes_eq bytes) held ≡ b → ((if b then bytes else []) ≡ [] → ⊥)
+        → Contains held bytes × ((if b then bytes else []) ≡ bytes)
+    by true is some = (Contains-from_any (λ one other same. same_text one other (sym same)) bytes held is, refl)
+    by false is some = absurd (some refl)
+
+-- An image from before a call for one from after it: what was certain, and else what this one has, where that could
+-- stand there before.
+unfoldable earlier : Disk → Image → Image
+earlier old image d x = unwrap_or (certain old d x) (if_among (able old d x) (image d x))
+
+-- It has an uberblock where that was certain, or could stand there and does in the image after the call.
+earlier_has : (old : Disk) (image : Image) (d x : ℕ) (uber : Uber) → earlier old image d x ≡ encoded uber d
+    → (certain old d x ≡ Some (encoded uber d))
+    ⊎ (Contains (able old d x) (encoded uber d) × (image d x ≡ encoded uber d))
+unfolding earlier
+earlier_has old image d x uber is = by (certain old d x) refl is
+  where
+    by : (o : Option (List ℕ)) → certain old d x ≡ o
+        → unwrap_or o (if_among (able old d x) (image d x)) ≡ encoded uber d
+        → (certain old d x ≡ Some (encoded uber d))
+        ⊎ (Contains (able old d x) (encoded uber d) × (image d x ≡ encoded uber d))
+    by (Some b) known is = inl (known ∙ ap (λ (k : List ℕ). Some k) is)
+    by None known is =
+        let among = among_some (able old d x) (image d x) (λ none. encoded_some uber d (sym is ∙ none)) in
+        let same : image d x ≡ encoded uber d = sym among.1 ∙ is in
+        inr (subst (λ (k : List ℕ). Contains (able old d x) k) same among.0, same)
+
+-- It keeps what could stand there before.
+earlier_keeps : (old : Disk) → Lawful old → (image : Image) (d x : ℕ) → Contains (able old d x) (image d x)
+    → earlier old image d x ≡ image d x
+unfolding earlier
+earlier_keeps old lawful image d x could = by (certain old d x) refl
+  where
+    by : (o : Option (List ℕ)) → certain old d x ≡ o
+        → unwrap_or o (if_among (able old d x) (image d x)) ≡ image d x
+    by (Some b) known = sym (lawful.stays_could d x b (image d x) known could)
+    by None known = among_same (able old d x) (image d x) could
+
+earlier_might : (shape : Shape) (old : Disk) → Lawful old → (image : Image)
+    → MightStand shape old old.clock (earlier old image)
+unfolding earlier
+earlier_might shape old lawful image = record {
+  fits = record { at = λ d x b known. ap (λ o. unwrap_or o (if_among (able old d x) (image d x))) known };
+  written = record {
+    ring = λ d uber shows. ⊎_elim
+        (λ known. lawful.reads_could d (slot_of uber.group) (encoded uber d)
+        (lawful.stays_read d (slot_of uber.group) (encoded uber d) known))
+        (λ could. could.0)
+        (earlier_has old image d (slot_of uber.group) uber shows.valid.bytes_are);
+  };
 }
 
+-- A call that writes rings of the pool's own devices alone, and no uberblock of another pool, changes no vote for
+-- another.
 module _ (setting : Setting) (here : ℕ → ℕ → Type 0) (lost : ℕ → Bool)
     (old new : Disk) (lawful : Lawful old) (frames : Frames here lost old new)
-    (inside : (d x : ℕ) → here d x → x < 32 → d < setting.reach) where
-  -- An image from before a call that has the rings outside the pool as a given one from after it.
-  earlier : Image → Image
-  earlier image d x = if nat_lt d setting.reach then present old d x
-      else unwrap_or (certain old d x) (image d x)
+    (inside : (d x : ℕ) → here d x → x < 32 → d < setting.reach)
+    (own : (d : ℕ) (uber : Uber) → IsAble setting.shape new d uber
+    → (uber.pool ≡ setting.pool) ⊎ IsAble setting.shape old d uber) where
+  -- An uberblock of another pool is shown before,
+  shown_before : (image : Image) → MightStand setting.shape new new.clock image → (d : ℕ) (uber : Uber)
+      → uber.pool ≢ setting.pool → Shows setting.shape image d uber → Shows setting.shape (earlier old image) d uber
+  shown_before image might d uber other shows = ⊎_elim
+      (λ (same : uber.pool ≡ setting.pool). absurd (other same))
+      (λ was. record {
+        device_in = shows.device_in;
+        slot_in = shows.slot_in;
+        valid = record {
+          right = shows.valid.right;
+          slot_is = shows.valid.slot_is;
+          bytes_are = earlier_keeps old lawful image d (slot_of uber.group)
+              (subst (λ (k : List ℕ). Contains (able old d (slot_of uber.group)) k) (sym shows.valid.bytes_are)
+              was.could)
+              ∙ shows.valid.bytes_are;
+        };
+      })
+      (own d uber (record {
+        device_in = shows.device_in;
+        slot_in = shows.slot_in;
+        right = shows.valid.right;
+        could = might.written.ring d uber shows;
+      }))
 
-  earlier_inside : (image : Image) (d x : ℕ) → d < setting.reach
-      → earlier image d x ≡ present old d x
-  unfolding earlier
-  earlier_inside image d x below = grind (arith, nat_tests, below)
-
-  earlier_outside : (image : Image) (d x : ℕ) → setting.reach ≤ d
-      → earlier image d x ≡ unwrap_or (certain old d x) (image d x)
-  unfolding earlier
-  earlier_outside image d x above = grind (arith, nat_tests, above)
-
-  same_ring : (image : Image) → Fits (certain new) image → (d x : ℕ)
-      → setting.reach ≤ d → x < 32
-      → image d x ≡ earlier image d x
-  same_ring image fits d x above low =
-      by (certain old d x) refl ∙ sym (earlier_outside image d x above)
-    where
-      by : (o : Option (List ℕ)) → certain old d x ≡ o
-          → image d x ≡ unwrap_or (certain old d x) (image d x)
-      by None is = sym (ap (λ o. unwrap_or o (image d x)) is)
-      by (Some b) is =
-          fits.at d x b (frames.stays d x b (λ h. omega (arith, inside d x h low, above)) is)
-          ∙ sym (ap (λ o. unwrap_or o (image d x)) is)
-
-  earlier_might : (image : Image) → MightStand setting.shape new new.clock image
-      → MightStand setting.shape old old.clock (earlier image)
-  earlier_might image might = record {
-    fits = record { at = λ d x b known. at d x b known };
-    written = record { ring = λ d uber shows. ring d uber shows };
+  -- and outside nothing is that is not shown after.
+  shown_after : (image : Image) → MightStand setting.shape new new.clock image → (d : ℕ) (uber : Uber)
+      → setting.reach ≤ d → Shows setting.shape (earlier old image) d uber → Shows setting.shape image d uber
+  shown_after image might d uber outside shows = record {
+    device_in = shows.device_in;
+    slot_in = shows.slot_in;
+    valid = record {
+      right = shows.valid.right;
+      slot_is = shows.valid.slot_is;
+      bytes_are = ⊎_elim
+          (λ known. might.fits.at d (slot_of uber.group) (encoded uber d)
+          (frames.stays d (slot_of uber.group) (encoded uber d)
+          (λ h. omega (arith, inside d (slot_of uber.group) h (slot_low uber.group), outside)) known))
+          (λ could. could.1)
+          (earlier_has old image d (slot_of uber.group) uber shows.valid.bytes_are);
+    };
   }
-    where
-      at : (d x : ℕ) (b : List ℕ) → certain old d x ≡ Some b → earlier image d x ≡ b
-      at d x b known = ⊎_elim
-          (λ below. earlier_inside image d x below
-          ∙ ap (λ o. unwrap_or o []) (lawful.stays_read d x b known))
-          (λ above. earlier_outside image d x above ∙ ap (λ o. unwrap_or o (image d x)) known)
-          (cases_lt d setting.reach)
 
-      ring : (d : ℕ) (uber : Uber) → Shows setting.shape (earlier image) d uber
-          → Contains (able old d (slot_of uber.group)) (encoded uber d)
-      ring d uber shows = ⊎_elim
-          (λ below. (present_might setting.shape old lawful).written.ring d uber
-          (shows_same setting.shape (earlier image) (present old) d uber
-          (λ slot low. earlier_inside image d slot below) shows))
-          (λ above. frames.could d (slot_of uber.group) (encoded uber d)
-          (λ h. omega (arith, inside d (slot_of uber.group) h (slot_low uber.group), above))
-          (might.written.ring d uber (shows_same setting.shape (earlier image) image d uber
-          (λ slot low. sym (same_ring image might.fits d slot above low)) shows)))
-          (cases_lt d setting.reach)
+  votes_before : (image : Image) → MightStand setting.shape new new.clock image → (other d : ℕ)
+      → other ≢ setting.pool → MayVoteFor setting image other d → MayVoteFor setting (earlier old image) other d
+  votes_before image might other d differs (inl out) = inl (record {
+    outside = out.outside;
+    names = record {
+      reads = out.names.reads;
+      uber = out.names.uber;
+      shows = shown_before image might d out.names.uber (λ same. differs (sym out.names.pool_is ∙ same))
+          out.names.shows;
+      greatest = λ later shows. out.names.greatest later (shown_after image might d later out.outside shows);
+      pool_is = out.names.pool_is;
+    };
+  })
+  votes_before image might other d differs (inr gone) = inr (record {
+    within = gone.within;
+    failed = gone.failed;
+    uber = gone.uber;
+    shows = shown_before image might d gone.uber (λ same. differs (sym gone.pool_is ∙ same)) gone.shows;
+    pool_is = gone.pool_is;
+  })
 
-  -- A call that writes rings of the pool's own devices alone changes no vote for another pool.
   pub votes_frame : ((image : Image) → MightStand setting.shape old old.clock image
       → IsNotOutvoted setting image)
       → (image : Image) → MightStand setting.shape new new.clock image
       → IsNotOutvoted setting image
   votes_frame votes image might other others differs distinct each =
-      votes (earlier image) (earlier_might image might) other others differs distinct
-      (λ k d low. let names = each k d low in record {
-        outside = names.outside;
-        names = names_same setting.shape 0 image (earlier image) other _
-            (λ slot below. same_ring image might.fits _ slot names.outside below) names.names;
-      })
+      votes (earlier old image) (earlier_might setting.shape old lawful image) other others differs distinct
+      (λ k d low. votes_before image might other _ differs (each k d low))
 
 -- A page, a slot and blocks that a call doesn't touch.
 pub page_frame : (here : ℕ → ℕ → Type 0) (lost : ℕ → Bool) (old new : Disk) (kept : Kept)
@@ -241,9 +302,10 @@ knows_frame here lost setting first later old new lawful frames spare knows = re
       (first ∷ later) uber frames
       (λ kept d x bytes listed asks h. (spare d x h).cells kept bytes listed asks)
       (knows.only device uber (back device uber able_new) pool_is above);
-  own = λ device uber able_new below. knows.own device uber (back device uber able_new) below;
+  own = λ device uber able_new. knows.own device uber (back device uber able_new);
   votes = votes_frame setting here lost old new lawful frames
-      (λ d x h low. absurd (let ring = (spare d x h).ring in omega (arith, ring, low))) knows.votes;
+      (λ d x h low. absurd (let ring = (spare d x h).ring in omega (arith, ring, low)))
+      (λ d uber is. inr (back d uber is)) knows.votes;
 }
   where
     back : (device : ℕ) (uber : Uber) → IsAble setting.shape new device uber
@@ -285,11 +347,13 @@ knows_one_more setting first later old new device uber result lawful wrote below
           (framed uber known))
           (λ was. framed other (knows.only e other was pool_other above))
           (was_or e other is);
-      own = λ e other is below_e. ⊎_elim
+      own = λ e other is below_e works. ⊎_elim
           (λ same. ap (λ (u : Uber). u.pool) same ∙ pool_is)
-          (λ was. knows.own e other was below_e) (was_or e other is);
+          (λ was. knows.own e other was below_e works) (was_or e other is);
       votes = votes_frame setting (IsPlace device slot) none_lost old new lawful frames
-          (λ d x h low. subst (λ k. k < setting.reach) (sym h.0) below) knows.votes;
+          (λ d x h low. subst (λ k. k < setting.reach) (sym h.0) below)
+          (λ e other is. ⊎_elim (λ same. inl (ap (λ (u : Uber). u.pool) same ∙ pool_is)) (λ was. inr was)
+          (was_or e other is)) knows.votes;
     }
   where
     slot : ℕ

@@ -1,8 +1,10 @@
 pub mod Items
 pub mod Rows
+pub mod Left
 pub mod Fresh
 pub mod Widths
 pub mod Reader
+pub mod Reaching
 pub mod OpeningRows
 pub mod Listed
 pub mod Keeping

@@ -10,6 +10,7 @@ use Rattle.core_state.specs.Collision.{MightStand}
 use Rattle.core_state.specs.Certain.{Knows}
 use Rattle.core_state.specs.Moment.{IsRowOf, KeepsRow, KeepsSince}
 use Rattle.core_state.proofs.Keeping.{knows_keep}
+use Rattle.core_state.proofs.Reaching.{widest_reach, reaches_no_further, keeps_to_reach}
 
 -- An image that might stand at a moment might stand at another one that leaves the same.
 pub might_at : (shape : Shape) (disk other : Disk) (moment time : ℕ) (image : Image)
@@ -39,6 +40,7 @@ row_at setting groups disk other moment time same kept = record {
   after = kept.after;
   row = kept.row;
   reach = kept.reach;
+  no_further = kept.no_further;
   keeps = λ image might. kept.keeps image (might_at setting.shape disk other moment time image same might);
 }
 
@@ -52,8 +54,10 @@ row_now setting groups first later disk row knows = record {
   later = later;
   after = row.after;
   row = row.row;
-  reach = setting.reach;
-  keeps = λ image might. knows_keep setting first later disk knows image might;
+  reach = widest_reach first later;
+  no_further = reaches_no_further first later;
+  keeps = λ image might.
+      keeps_to_reach setting first later image (knows_keep setting first later disk knows image might);
 }
 
 -- From now on.

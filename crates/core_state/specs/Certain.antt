@@ -115,7 +115,7 @@ pub record Knows (setting : Setting) (first : Kept) (later : List Kept) (disk : 
       → uber.pool ≡ setting.pool → first.uber.group ≤ uber.group
       → IsCertain setting disk (first ∷ later) uber
   pub own : (device : ℕ) (uber : Uber) → IsAble setting.shape disk device uber
-      → device < setting.reach
+      → device < setting.reach → has_device setting.failed device ≡ false
       → uber.pool ≡ setting.pool
   pub votes : (image : Image) → MightStand setting.shape disk disk.clock image
       → IsNotOutvoted setting image

@@ -1,5 +1,5 @@
 -- An image keeps these groups and no others of the pool.
-use Rattle.std.specs.Prelude.{◌≡◌, ◌≢◌, ◌⊎◌, ℕ, zero, suc, ◌+◌, ◌<◌, ◌≤◌, List, ◌∷◌, length, All, AllPairs, false}
+use Rattle.std.specs.Prelude.{◌≡◌, ◌≢◌, ◌⊎◌, ℕ, zero, suc, ◌+◌, ◌<◌, ◌≤◌, List, [], ◌∷◌, All, AllPairs, true, false}
 use Rattle.std.specs.Prelude.{Contains, nat_eq, if◌then◌else◌}
 use Rattle.std.specs.List.{IsDistinct}
 use Rattle.bank_trait.specs.Disk.{Image}
@@ -10,7 +10,7 @@ use Rattle.uberblock_ring.specs.Valid.{AreAlike}
 use Rattle.core_state.specs.Index.{IsListing}
 use Rattle.core_state.specs.Map.{Map, SameMap}
 use Rattle.core_state.specs.Shown.{Shape, read_devices, Shows, Gives, IsCandidate}
-use Rattle.core_state.specs.Choosing.{Names}
+use Rattle.core_state.specs.Choosing.{Names, Outvotes}
 use Rattle.core_state.specs.Whole.{Excepted, IsWhole}
 
 -- a group: its uberblock but for the out set, its index, and its map
@@ -104,18 +104,19 @@ IsNextOf first next =
     ((next.uber.group ≡ first.uber.group + 1) × (next.uber.area ≢ first.uber.area) × AreNearWidths first next)
     ⊎ Renews first next
 
--- No device that is the pool's or may join it shows an uberblock of another pool: creating cleared its
--- ring, and an attach refuses a device that shows one.
+-- No device that is the pool's or may join it, and hasn't failed, shows an uberblock of another pool: creating
+-- cleared its ring, and an attach refuses a device that shows one. In a failed one's place another disk may stand.
 abbrev pub ShowsNoOther : Setting → Image → Type 0
 ShowsNoOther setting image = (device : ℕ) (uber : Uber) → device < setting.reach
+    → has_device setting.failed device ≡ false
     → Shows setting.shape image device uber
     → uber.pool ≡ setting.pool
 
--- devices below a number that haven't failed
-abbrev pub count_left : ℕ → ℕ → ℕ
-count_left failed zero = 0
-count_left failed (suc device) =
-    count_left failed device + (if has_device failed device then 0 else 1)
+-- the devices below a number that haven't failed, downwards
+abbrev pub left_below : ℕ → ℕ → List ℕ
+left_below failed zero = []
+left_below failed (suc device) =
+    if has_device failed device then left_below failed device else device ∷ left_below failed device
 
 -- A device outside the pool names another pool.
 pub record NamesOther (setting : Setting) (image : Image) (other device : ℕ) : Type 0
@@ -123,12 +124,27 @@ pub record NamesOther (setting : Setting) (image : Image) (other device : ℕ) :
     pub outside : setting.reach ≤ device
     pub names : Names setting.shape 0 image other device
 
--- No other pool is named by more devices than devices of this pool are left. So this pool is chosen,
--- whichever of the devices that have failed, or are outside the pool, are silent.
+-- A failed device of the pool shows an uberblock of another pool, maybe below one of this pool: a write of this pool's
+-- may yet tear that.
+pub record ShowsOther (setting : Setting) (image : Image) (other device : ℕ) : Type 0
+  where
+    pub within : device < setting.reach
+    pub failed : has_device setting.failed device ≡ true
+    pub uber : Uber
+    pub shows : Shows setting.shape image device uber
+    pub pool_is : uber.pool ≡ other
+
+-- A device may vote for another pool.
+abbrev pub MayVoteFor : Setting → Image → ℕ → ℕ → Type 0
+MayVoteFor setting image other device = NamesOther setting image other device ⊎ ShowsOther setting image other device
+
+-- The devices of this pool that are left outvote each other pool. So this pool is chosen, whichever of the devices that
+-- have failed, or are outside the pool, are silent. Where no failed device shows another pool, as many devices outside
+-- may name one as are left of this pool: theirs are the higher numbers.
 abbrev pub IsNotOutvoted : Setting → Image → Type 0
 IsNotOutvoted setting image = (other : ℕ) (others : List ℕ) → other ≢ setting.pool
-    → IsDistinct nat_eq others → All (NamesOther setting image other) others
-    → length others ≤ count_left setting.failed setting.base
+    → IsDistinct nat_eq others → All (MayVoteFor setting image other) others
+    → Outvotes (left_below setting.failed setting.base) others
 
 -- So many devices are no fewer than the pool has at least, and no more than it has at most.
 pub record IsWidthIn (setting : Setting) (width : ℕ) : Type 0 where
@@ -137,6 +153,12 @@ pub record IsWidthIn (setting : Setting) (width : ℕ) : Type 0 where
 
 abbrev pub HasWidthIn : Setting → Kept → Type 0
 HasWidthIn setting kept = IsWidthIn setting kept.uber.reflow.to
+
+-- A pool that has these groups reaches no further than the widest of them.
+pub record ReachesNoFurther (groups : List Kept) (reach : ℕ) : Type 0 where
+  pub widest : Kept
+  pub listed : Contains groups widest
+  pub within : reach ≤ widest.uber.reflow.to
 
 -- Each device that is the pool's or may join it, and hasn't failed, is read.
 abbrev pub HasDevices : Setting → Type 0

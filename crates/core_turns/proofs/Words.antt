@@ -80,7 +80,7 @@ pub use Rattle.mark_choice.proofs.Still.{choice_still}
 pub use Rattle.mark_choice.specs.Clear.{HasNoShared}
 pub use Rattle.mark_choice.specs.CommitChoice.{Chooses, IsChoiceIn, IsCommitChoice, IsWiderByOne, MayRecord, Widens}
 pub use Rattle.mark_choice.specs.CommitChoice.{range_of_commit}
-pub use Rattle.core_commit.proofs.Narrowing.{reach_less}
+pub use Rattle.core_state.proofs.Joining.{reach_less}
 pub use Rattle.core_copy.specs.Around.{IsCellIn, IsClose, StandAround}
 pub use Rattle.core_copy.proofs.Advance.{around_alone, around_begins}
 pub use Rattle.core_copy.proofs.Apart.{held_outside}

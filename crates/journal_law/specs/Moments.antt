@@ -6,13 +6,13 @@ use Rattle.core_state.specs.declared.item.Item.{Item}
 use Rattle.core_state.specs.Map.{Map, PutBytes}
 use Rattle.core_state.specs.Legal.{IsGroupBefore}
 use Rattle.core_state.specs.Journal.{Calls}
-use Rattle.core_state.specs.Keeps.{Kept, Setting}
+use Rattle.core_state.specs.Keeps.{Kept, Setting, ReachesNoFurther}
 use Rattle.core_state.specs.Collision.{BankKeeps}
 use Rattle.core_state.specs.Moment.{IsGroupOf, IsBegunAfter, KeepsSince}
 use Rattle.journal_law.specs.Parity.{HaveParityOf}
 
 -- The bank keeps the journal's last group, and maybe one that was begun after it, in a pool that reaches so far by
--- then.
+-- then, as far as the wider one.
 pub record KeepsLast (setting : Setting) (calls : Calls) (handed : PutBytes) (opening : Map) (items : List Item)
     (disk : Disk) : Type 0 where
   pub group : GroupItem
@@ -24,6 +24,7 @@ pub record KeepsLast (setting : Setting) (calls : Calls) (handed : PutBytes) (op
   pub begun_is : (kept : Kept) → Contains begun kept
       → IsBegunAfter calls handed opening items group kept
   pub reach : ℕ
+  pub no_further : ReachesNoFurther (last ∷ begun) reach
   pub keeps : BankKeeps (record setting { reach = reach }) last begun disk
 
 -- From the moment at which the journal came to these items until it came to the next one: first the bank

@@ -47,7 +47,7 @@ keeps_with setting first later failed image more few votes keeps = record {
   widths = λ place kept low. let width = keeps.widths place kept low in
       record { least = width.least; most = width.most };
   inside = λ device below left. keeps.inside device below (works device left);
-  own = keeps.own;
+  own = λ device uber below left. keeps.own device uber below (works device left);
   votes = votes;
 }
   where

@@ -14,9 +14,10 @@ use Rattle.core_state.specs.declared.item.Item.{Item}
 use Rattle.core_state.specs.declared.item.Item.TheVariants.{Call}
 use Rattle.core_state.specs.Map.{Map, PutBytes, SameMap, map_after}
 use Rattle.core_state.specs.Legal.{CallAt}
-use Rattle.core_state.specs.Keeps.{HaveParity, Kept, Setting, Keeps}
+use Rattle.core_state.specs.Keeps.{HaveParity, Kept, Setting, Keeps, ReachesNoFurther}
 use Rattle.core_state.specs.Moment.{IsGroupOf, IsBegunAfter, IsUnanswered, KeepsRow, KeepsSince, groups_in}
 use Rattle.core_state.proofs.Listed.{contains_none, contains_cases, contains_head}
+use Rattle.core_state.proofs.Reaching.{reaches_among}
 use Rattle.core_state.proofs.Widths.{first_width}
 use Rattle.core_open.specs.Opens.{AddsOne, IsWithinBelow}
 use Rattle.uberblock_ring.specs.Devices.{IsWithin}
@@ -66,10 +67,12 @@ taken_there (item ∷ items) (suc count) (suc index) entry there = taken_there i
 read_back : (setting : Setting) (reach : ℕ) (groups : List Kept) (opened first : Kept) (later : List Kept) (image : Image)
     → setting.excepted ≡ [] → IsImageOf setting.shape image
     → Keeps (record setting { reach = reach }) first later image
+    → ReachesNoFurther (first ∷ later) reach
     → ((kept : Kept) → Contains (first ∷ later) kept → Contains groups kept)
     → HaveParity opened.uber.parity groups → HaveBytes groups → IsReadBack setting groups image
-read_back setting reach groups opened first later image excepted only keeps among parity bytes = record {
+read_back setting reach groups opened first later image excepted only keeps no_further among parity bytes = record {
   reach = reach;
+  no_further = reaches_among (first ∷ later) groups reach among no_further;
   opened = λ disk left. record {
     first = first;
     later = later;
@@ -162,7 +165,8 @@ module _ (script : Script) (old new : Disk) (items : List Item) (out : ℕ) (run
       → IsReadBack setting run_groups image
   any_moment moment image since until left =
       let some = keeps.any_moment.since.each moment since until in
-      read_back setting some.reach run_groups first some.first some.later image may.excepted left.only (some.keeps image left.might)
+      read_back setting some.reach run_groups first some.first some.later image may.excepted left.only
+      (some.keeps image left.might) some.no_further
       (row_among (record { before = some.before; after = some.after; row = some.row })) keeps.groups.parities all_bytes
 
   by_then : (count : ℕ) (some : 1 ≤ count) (all : count ≤ length items) (moment : ℕ) (image : Image)
@@ -175,7 +179,8 @@ module _ (script : Script) (old new : Disk) (items : List Item) (out : ℕ) (run
       let part_hands : HandsBytes (handed_by script) (take count items) = record {
         each = λ index entry there. hands.each index entry (taken_there items count index entry there);
       } in
-      read_back setting found.reach (last_groups until) first found.first found.later image may.excepted left.only (found.keeps image left.might)
+      read_back setting found.reach (last_groups until) first found.first found.later image may.excepted left.only
+      (found.keeps image left.might) found.no_further
       (row_among (record { before = found.before; after = found.after; row = found.row }))
       (until.parity first (contains_head first later))
       (last_bytes (take count items) part_hands until.kept.group until.kept.last until.onward until.kept.last_is
@@ -184,7 +189,7 @@ module _ (script : Script) (old new : Disk) (items : List Item) (out : ℕ) (run
   at_end : (image : Image) → IsLeft setting new new.clock image
       → IsReadBack setting (keeps.kept.last ∷ keeps.kept.begun) image
   at_end image left = read_back setting keeps.kept.reach (keeps.kept.last ∷ keeps.kept.begun) first keeps.kept.last keeps.kept.begun
-      image may.excepted left.only (keeps.kept.keeps image left.might) (λ kept listed. listed)
+      image may.excepted left.only (keeps.kept.keeps image left.might) keeps.kept.no_further (λ kept listed. listed)
       (λ kept has. keeps.groups.parities kept (keeps.groups.kept_among kept has))
       (last_bytes items hands keeps.kept.group keeps.kept.last keeps.kept.begun keeps.kept.last_is
       keeps.kept.begun_is)
@@ -248,6 +253,8 @@ module _ (setting : Setting) (first : Kept) (later : List Kept) (old : Disk) (ma
         joined = joined;
         adds = adds;
         reach = now.reach;
+        no_further = reaches_among (now.first ∷ now.later) ((first ∷ later) ++ joined) now.reach
+            (row_among (record { before = now.before; after = now.after; row = now.row })) now.no_further;
         goes_on = λ told. record {
           first = now.first;
           later = now.later;
@@ -258,7 +265,8 @@ module _ (setting : Setting) (first : Kept) (later : List Kept) (old : Disk) (ma
         };
         any_moment = λ moment image from until left.
             let some = since.each moment from until in
-            read_back setting some.reach ((first ∷ later) ++ joined) first some.first some.later image may.excepted left.only (some.keeps image left.might)
+            read_back setting some.reach ((first ∷ later) ++ joined) first some.first some.later image may.excepted left.only
+            (some.keeps image left.might) some.no_further
             (row_among (record { before = some.before; after = some.after; row = some.row })) joined_parity joined_bytes;
       }
         where

@@ -11,8 +11,8 @@ abbrev pub setting_with : Setting → ℕ → Setting
 setting_with setting failed = record setting { failed = failed }
 
 -- Beside the devices that could fail before, these have to be borne now, and those of the first group that were silent.
--- Together they are among some that are no more than there are parities; and no other pool is named by more devices
--- than are left of this one.
+-- Together they are among some that are no more than there are parities; and with these failed the devices that are
+-- left of the pool outvote each other pool.
 pub record CanBear (setting : Setting) (first : Kept) (disk : Disk) (silent borne failed : ℕ) : Type 0 where
   pub earlier : IsWithin setting.failed failed
   pub now : IsWithin borne failed

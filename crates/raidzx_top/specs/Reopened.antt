@@ -10,7 +10,7 @@ use Rattle.core_state.specs.declared.item.Item.{Item}
 use Rattle.core_state.specs.Map.{Map, PutBytes}
 use Rattle.core_state.specs.Legal.{CallAt}
 use Rattle.core_state.specs.Journal.{Calls, IsLegalJournal}
-use Rattle.core_state.specs.Keeps.{Kept, Setting}
+use Rattle.core_state.specs.Keeps.{Kept, Setting, ReachesNoFurther}
 use Rattle.core_state.specs.Moment.{Groups}
 use Rattle.core_state.specs.Collision.{MightStand, HasNoOtherPage}
 use Rattle.core_open.specs.Adding.{MayBeAdded, setting_on}
@@ -62,10 +62,11 @@ pub record ReadsBack (groups : List Kept) (script : Script) (items : List Item) 
   pub sound : (index : ℕ) (entry : Entry) → CallAt items index entry → entry.answer ≢ answer.Damaged
 
 -- A bank that holds the image alone may be opened with some of these groups, and each script that is carried out on
--- it reads back one of them, where the silent devices of the pool, which reached so far when the image was left, and
--- those that have to be borne may fail.
+-- it reads back one of them, where the silent devices of the pool, which reached so far when the image was left and no
+-- further than one of the groups, and those that have to be borne may fail.
 pub record IsReadBack (setting : Setting) (groups : List Kept) (image : Image) : Type 0 where
   pub reach : ℕ
+  pub no_further : ReachesNoFurther groups reach
   pub opened : (disk : Disk) → IsLeftOn setting groups image disk
       → MayBeginAmong (record setting { reach = reach }) groups disk
   pub each : (script : Script) (old new : Disk) (items : List Item) (out : ℕ) → (run : HasRun script old new items out)
@@ -132,5 +133,6 @@ pub record SurvivesOpening (setting : Setting) (first : Kept) (later : List Kept
       → IsLeft setting new moment image
       → IsReadBack setting ((first ∷ later) ++ joined) image
   pub reach : ℕ
+  pub no_further : ReachesNoFurther ((first ∷ later) ++ joined) reach
   pub goes_on : IsToldOn setting ((first ∷ later) ++ joined) new
       → MayBeginAmong (record setting { reach = reach }) ((first ∷ later) ++ joined) new

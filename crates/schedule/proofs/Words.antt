@@ -206,6 +206,7 @@ pub use Rattle.journal_law.proofs.Parity.{opened_parity, parity_opened, parity_w
 pub use Rattle.journal_law.proofs.Rows.{row_among}
 pub use Rattle.journal_law.specs.Caused.{HasTooManyIds, IsHeldOrPut}
 pub use Rattle.journal_law.specs.FirstGroup.{BeginsAfter}
+pub use Rattle.core_state.proofs.Reaching.{widest_reach, reaches_no_further, keeps_to_reach}
 pub use Rattle.journal_law.specs.Moments.{KeepsLast, KeepsUntil}
 pub use Rattle.journal_law.specs.NoSpace.{FindsNoSpace, IsBornBehind, NoSpaceIsCaused, has_ended, largest_size}
 pub use Rattle.journal_law.specs.NoSpace.{length_put}

@@ -5,7 +5,7 @@ use Rattle.core_state.specs.declared.item.Group.{Group as GroupItem}
 use Rattle.core_state.specs.declared.item.Item.{Item}
 use Rattle.core_state.specs.Map.{Map, PutBytes}
 use Rattle.core_state.specs.Journal.{Calls}
-use Rattle.core_state.specs.Keeps.{Kept, Setting}
+use Rattle.core_state.specs.Keeps.{Kept, Setting, ReachesNoFurther}
 use Rattle.core_state.specs.Collision.{BankKeeps}
 use Rattle.core_state.specs.Moment.{IsBegunAfter, KeepsSince, KeepsThroughout}
 use Rattle.journal_law.specs.Moments.{KeepsUntil}
@@ -42,5 +42,6 @@ pub record KeepsOn (setting : Setting) (calls : Calls) (handed : PutBytes) (open
   pub one : length first ≤ 1
   pub first_is : (kept : Kept) → Contains first kept → IsBegunAfter calls handed opening items item kept
   pub reach : ℕ
+  pub no_further : ReachesNoFurther (last ∷ first) reach
   pub keeps : BankKeeps (record setting { reach = reach }) last first from
   pub since : KeepsSince setting (last ∷ begun) from.clock now

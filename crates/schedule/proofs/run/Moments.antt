@@ -4,7 +4,7 @@ use Rattle.schedule.proofs.Words.{take, Contains, cases_lt, append-nil, take-app
 use Rattle.schedule.proofs.Words.{later_refl, later_trans, Item, Map, PutBytes, IsGroupBefore, Calls, Kept, Setting}
 use Rattle.schedule.proofs.Words.{Knows, IsGroupOf, IsBegunAfter, IsRowOf, KeepsSince, KeepsThroughout, knows_keep}
 use Rattle.schedule.proofs.Words.{since_now, KeepsUntil, HaveParityOf, KeepsTurnByTurn, KeepsOn, KeptSoFar, Past}
-use Rattle.schedule.proofs.Words.{KeepsRow}
+use Rattle.schedule.proofs.Words.{KeepsRow, widest_reach, reaches_no_further, keeps_to_reach}
 use Rattle.core_state.specs.declared.item.Group.{Group as GroupItem}
 
 -- The last group of a journal, and at most one that was begun after it, of the parity of the groups known.
@@ -33,6 +33,7 @@ since_any_reach setting {groups = groups} {time = time} {disk = disk} {reach = r
       after = row.after;
       row = row.row;
       reach = row.reach;
+      no_further = row.no_further;
       keeps = row.keeps;
     }
 
@@ -47,7 +48,16 @@ module _ {setting : Setting} {calls : Calls} {handed : PutBytes} {opening : Map}
       → KeepsOn setting calls handed opening items item last begun from now → Later now next
       → (KeepsSince setting (last ∷ begun) from.clock now → KeepsSince setting (last ∷ onward) from.clock next)
       → KeepsOn setting calls handed opening items item last onward from next
-  on_goes {onward} {from} {now} {next} on later keeps = search (later_trans, arith)
+  on_goes on later keeps = record {
+    later = later_trans on.later later;
+    first = on.first;
+    one = on.one;
+    first_is = on.first_is;
+    reach = on.reach;
+    no_further = on.no_further;
+    keeps = on.keeps;
+    since = keeps on.since;
+  }
 
   -- What is certain now the bank keeps, in a pool that reaches so far, and each image from now on.
   pub on_now : {known : List Kept} {now : Disk} {reach : ℕ} → AreLatest calls handed opening known items item last begun
@@ -58,8 +68,10 @@ module _ {setting : Setting} {calls : Calls} {handed : PutBytes} {opening : Map}
     first = begun;
     one = are.one;
     first_is = are.begun_is;
-    reach = reach;
-    keeps = search knows_keep;
+    reach = widest_reach last begun;
+    no_further = reaches_no_further last begun;
+    keeps = λ image might. keeps_to_reach (record setting { reach = reach }) last begun image
+        (knows_keep (record setting { reach = reach }) last begun now knows image might);
     since = since_any_reach setting
         (since_now (record setting { reach = reach }) (last ∷ begun) last begun now (whole_row last begun) knows);
   }
@@ -70,7 +82,18 @@ module _ {setting : Setting} {calls : Calls} {handed : PutBytes} {opening : Map}
       → KeepsUntil setting calls handed opening known items from now
   until_of are on = record {
     later = on.later;
-    kept = search;
+    kept = record {
+      group = item;
+      latest = are.latest;
+      last = last;
+      last_is = are.last_is;
+      begun = on.first;
+      one = on.one;
+      begun_is = on.first_is;
+      reach = on.reach;
+      no_further = on.no_further;
+      keeps = on.keeps;
+    };
     onward = begun;
     one = are.one;
     onward_is = are.begun_is;

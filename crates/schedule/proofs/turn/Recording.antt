@@ -1,4 +1,5 @@
 -- A journal goes on to tell what it did, turn by turn: the devices go on, a commit begins or ends, a call is answered.
+use Rattle.schedule.proofs.Words.{widest_reach, reaches_no_further, keeps_to_reach}
 use Rattle.schedule.proofs.Words.{◌≡◌, ℕ, ◌≤◌, List, [], ◌∷◌, ◌++◌, length, refl, ◌∙◌, arith, append_assoc}
 use Rattle.schedule.proofs.Words.{length-append, ◌+◌, append-nil, Contains, ⊤, Disk, Later, Entry, Item, Group, Call}
 use Rattle.schedule.proofs.Words.{Map, PutBytes, IsGroupBefore, IsAnswerOf, Calls, Follows, IsAttachOf, Kept, Setting}
@@ -150,8 +151,10 @@ module _ {world : World} {past : Past} {items : List Item} {item : GroupItem} {l
       begun = begun;
       one = latest_now.one;
       begun_is = latest_now.begun_is;
-      reach = reach;
-      keeps = search knows_keep;
+      reach = widest_reach last begun;
+      no_further = reaches_no_further last begun;
+      keeps = λ image might. keeps_to_reach (record world.setting { reach = reach }) last begun image
+          (knows_keep (record world.setting { reach = reach }) last begun now knows image might);
     },
     row_among row_now,
   )
