@@ -118,6 +118,31 @@ reads 10 disk0 disk1 disk2
 tells 'one that is out for good need not be named' "$(behind disk1 4 8)" 'raidzx: disk1: out of the pool for good' \
   'raidzx: disk 3, for which no image is named: out of the pool for good'
 
+# A disk is lost and out for good, and its word is left out: the others stand in wrong places. A word stands for it in
+# the right order, but where it is the last.
+for parity in 1 2 3; do
+  pool $parity 4 256
+  runs 'a block is put' 0 '0 group 3 after 0
+1 a.1 put 7 ok
+2 group 4 after 2
+3 a.2 sync group 4' 'puthex 7 61' sync
+  rm disk1
+  calls 'get 7' >script
+  reads 6 disk0 none disk2 disk3
+  refused "a disk that is out is not named, parity $parity" 'too many failed 1 2 3' disk0 disk2 disk3
+  [ $parity = 3 ] && many=("$nothing") || many=()
+  tells 'the order is told with a word for it' "$(elsewhere disk2 1 2)" "$(elsewhere disk3 2 3)" "${many[@]}" \
+    "$(order disk0 none disk2 disk3 -- run)"
+  eval "\"$RAIDZX\" $(sed -n 's/^.*right order: //p' told)" <script >found 2>told || failed 'the words' "$(cat found)"
+  grep -qx '1 a.1 get 7 at 1 bytes 61' found || failed 'the words' "$(cat found)"
+  echo 'ok the words can be typed as they are shown'
+  refused 'another disk is not named either' 'too many failed 1 2 3' disk0 disk2
+  tells 'it is told' "$(elsewhere disk2 1 2)" "${many[@]}" "$(lacks 3)"
+  refused 'two others are in the wrong order' 'too many failed 1 3' disk0 disk3 disk2
+  [ $parity = 1 ] && many=() || many=("$nothing")
+  tells 'the order is told' "$(elsewhere disk3 1 3)" "${many[@]}" "$(order disk0 none disk2 disk3 -- run)"
+done
+
 # An image that was attached is left out, as no block lies on it yet.
 pool_and 1
 runs 'an image is attached' 0 '0 group 3 after 0

@@ -46,6 +46,8 @@ impl Source for MemSource {
 
     ghost faults = { read_faults };
 
+    ghost reads = { reads_made };
+
     /// A read fails where it is listed, and nowhere else.
     fn read(&mut self, into: &mut [u8]) -> Result<usize, Failed>
         ensures bound { IfOk result (λ k. k ≤ length into.new) }

@@ -9,6 +9,10 @@ use Rattle.client_script.specs.declared.line_fault.LineFault.{LineFault}
 use Rattle.client_script.specs.Faults.{IsFaultFor}
 use Rattle.client_script.specs.Script.{Script, most_bytes, IsOverLimit, reached_by}
 
+-- the most reads of a script: each gives one byte at least, but for the last
+abbrev pub most_reads : ℕ
+most_reads = most_bytes + 1
+
 -- a refusal of the bytes that were read
 abbrev pub read_refusal : ParseRefused → ReadRefused
 read_refusal (parse.ScriptFault line why) = ScriptFault line why

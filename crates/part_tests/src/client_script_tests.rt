@@ -36,6 +36,8 @@ impl<'a> Source for Tape<'a> {
 
     ghost faults = { λ tape. tape.faults };
 
+    ghost reads = { λ tape. tape.reads };
+
     fn read(&mut self, into: &mut [u8]) -> Result<usize, Failed> {
         self.reads = self.reads.saturating_add(1);
         if self.reads == self.fails {

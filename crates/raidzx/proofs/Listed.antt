@@ -14,7 +14,7 @@ use Rattle.core_open.proofs.Unchanged.{holds_then, shape_then, then_rose}
 use Rattle.raidzx.specs.ForGood.{AreListedOut, ChooseNone, out_of_group}
 
 module _ (old mid new : Disk) (same : Unchanged old mid) where
-  failed_before : (devices : ℕ) → HaveFailed mid new devices → HaveFailed old new devices
+  pub failed_before : (devices : ℕ) → HaveFailed mid new devices → HaveFailed old new devices
   failed_before devices failed = λ device has. let one = failed device has in
       (omega (arith, one.0, same.goes_on.later.devices), then_rose new device same one.1)
 

@@ -1,8 +1,9 @@
 -- At which places images stand.
-use Rattle.std.specs.Prelude.{◌≡◌, ◌≢◌, ◌↔◌, ℕ, ◌<◌, ◌≤◌, true, List}
+use Rattle.std.specs.Prelude.{◌≡◌, ◌≢◌, ◌⊎◌, ◌↔◌, ℕ, ◌<◌, ◌≤◌, true, List}
 use Rattle.std.specs.List.{All, Any}
 use Rattle.uberblock_ring.specs.Devices.{count_of, has_device}
 use Rattle.uberblock_ring.specs.Uberblock.{Uber}
+use Rattle.uberblock_ring.specs.Valid.{AreAlike}
 use Rattle.raidzx.specs.declared.sightings.Sighting.{Sighting}
 
 -- It is an uberblock of the pool, which the image at this place shows for its own number.
@@ -55,3 +56,19 @@ IsOfRivalAt sightings sighting pool place = (sighting.place ≡ place) × ((sigh
 -- The image at this place shows such another pool.
 abbrev pub ShowsOtherPool : List Sighting → ℕ → ℕ → Type 0
 ShowsOtherPool sightings pool place = Any (λ sighting. IsOfRivalAt sightings sighting pool place) sightings
+
+-- It is an uberblock in its place, which differs from this one in nothing but the disks that it lists as out: the disk
+-- of this place is one of them.
+abbrev pub IsListedBy : Sighting → Uber → ℕ → Type 0
+IsListedBy sighting uber place = (has_device sighting.uber.out place ≡ true)
+    × ((sighting.number ≡ sighting.place) × AreAlike sighting.uber uber)
+
+-- The group of this uberblock lists the disk of this place as out: the uberblock does, or another one of its group.
+abbrev pub IsListedOut : List Sighting → Uber → ℕ → Type 0
+IsListedOut sightings uber place = (has_device uber.out place ≡ true)
+    ⊎ Any (λ sighting. IsListedBy sighting uber place) sightings
+
+-- These are the places that its group lists as out, as the images show it.
+abbrev pub AreListed : List Sighting → Uber → ℕ → Type 0
+AreListed sightings uber places = (place : ℕ) → has_device places place ≡ true
+    ↔ ((place < 64) × IsListedOut sightings uber place)

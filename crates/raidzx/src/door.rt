@@ -1,8 +1,12 @@
 // Whether a command that changes a pool is let in: a slip in the words must cost no disk.
-ghost use Rattle.std.specs.Prelude.{◌≡◌, ◌<◌, ◌↔◌, ℕ, true};
+ghost use Rattle.std.specs.Prelude.{◌≡◌, ◌≢◌, ◌<◌, ◌↔◌, ℕ, IfOk, true};
 ghost use Rattle.bank_trait.specs.Disk.{Unchanged};
-ghost use Rattle.uberblock_ring.specs.Devices.{has_device};
+ghost use Rattle.uberblock_ring.specs.Devices.{count_of, has_device};
+ghost use Rattle.core_open.specs.declared.why.OpenWhy.TheVariants.{NoMemory};
+ghost use Rattle.raidzx.specs.declared.door.Pool.TheVariants.{Chosen, Likely};
+ghost use Rattle.raidzx.specs.declared.standing.Known.{Known as KnownOf};
 ghost use Rattle.raidzx.specs.Refused.{AreRefused, IsAmiss};
+ghost use Rattle.raidzx.specs.Surveyed.{FindsNone, FindsPool, IsPoolOf};
 
 use crate::lives::{are_of_one_life, other_places};
 use crate::places::{both, wrong_places};
@@ -10,7 +14,7 @@ use crate::sightings::{Sighting, Sightings, greatest, last_at, see};
 use crate::standing::{Known, is_behind};
 use bank_trait::Bank;
 use block_record::IndexEntry;
-use core_open::find;
+use core_open::{Found, OpenWhy, find};
 use std::alloc::{AllocError, Global};
 use uberblock_ring::{DeviceSet, Uber};
 
@@ -42,7 +46,9 @@ pub fn look_around<B: Bank>(
     bank: &mut B,
     asks_all: bool,
 ) -> Result<Survey, AllocError>
-    ensures { Unchanged (B.disk bank.old) (B.disk bank.new) }
+    ensures unchanged { Unchanged (B.disk bank.old) (B.disk bank.new) }
+    ensures chosen { IfOk result (FindsPool (B.disk bank.old) (B.disk bank.new)) }
+    ensures likely { IfOk result (FindsNone (B.disk bank.old) (B.disk bank.new)) }
 {
     let named = bank.devices();
     let sightings = see(alloc, bank)?;
@@ -54,27 +60,61 @@ pub fn look_around<B: Bank>(
         });
     }
     match find(alloc, bank) {
-        Ok(found) if !found.has_too_many_out() => {
-            let pool = Pool::Chosen(Known::by_found(named, &sightings, &found));
-            Ok(Survey {
-                sightings,
-                pool,
-                entries: found.entries,
-            })
-        }
-        _ => {
-            let pool = likely_pool(&sightings, named);
-            Ok(Survey {
-                sightings,
-                pool,
-                entries: Vec::new(alloc),
-            })
-        }
+        Ok(found) => Ok(surveyed(alloc, named, sightings, found)),
+        Err(why) => unsurveyed(alloc, named, sightings, why),
+    }
+}
+
+/// The pool is what was found, unless too many of its disks are out.
+fn surveyed(alloc: Global, named: u32, sightings: Sightings, found: Found) -> Survey
+    ensures chosen { (known : KnownOf) → result.pool ≡ Chosen known
+        → IsPoolOf found named result known }
+    ensures likely { (known : KnownOf) → result.pool ≡ Likely known
+        → found.uber.parity < count_of found.out }
+{
+    if found.has_too_many_out() {
+        return likely(alloc, named, sightings);
+    }
+    let pool = Pool::Chosen(Known::by_found(named, &sightings, &found));
+    Survey {
+        sightings,
+        pool,
+        entries: found.entries,
+    }
+}
+
+/// Nothing was found to open. Want of memory tells nothing of the images.
+fn unsurveyed(
+    alloc: Global,
+    named: u32,
+    sightings: Sightings,
+    why: OpenWhy,
+) -> Result<Survey, AllocError>
+    ensures { IfOk result (λ survey.
+        ((known : KnownOf) → survey.pool ≡ Chosen known → ⊥) × (why ≢ NoMemory)) }
+{
+    match why {
+        OpenWhy::NoMemory => Err(AllocError),
+        _ => Ok(likely(alloc, named, sightings)),
+    }
+}
+
+/// The pool that most images show, which is not found by an opening.
+fn likely(alloc: Global, named: u32, sightings: Sightings) -> Survey
+    ensures { (known : KnownOf) → result.pool ≡ Chosen known → ⊥ }
+{
+    let pool = likely_pool(&sightings, named);
+    Survey {
+        sightings,
+        pool,
+        entries: Vec::new(alloc),
     }
 }
 
 /// The pool that most images show, in whichever place.
-fn likely_pool(sightings: &Sightings, named: u32) -> Pool {
+fn likely_pool(sightings: &Sightings, named: u32) -> Pool
+    ensures { (known : KnownOf) → result ≡ Chosen known → ⊥ }
+{
     match greatest(&sightings.list, most_shown(&sightings.list)) {
         Some(uber) => Pool::Likely(Known::by_greatest(named, sightings, &uber)),
         None => Pool::Untold,

@@ -5,6 +5,18 @@ use crate::sightings::{LOOKED_AT, Sighting, shown_at};
 use crate::standing::Known;
 use std::alloc::{AllocError, Global};
 
+/// A word that stands for a disk.
+#[derive(Clone, Copy, Debug, PartialEq, Eq)]
+pub enum Word {
+    /// The one that names the image at this place now.
+    Image(u32),
+    /// One at which nothing stands: the disk is out for good, and has no image.
+    Lost,
+}
+
+/// The word for a disk that is lost.
+const LOST: &str = "none";
+
 /// The number under which the image at a place shows the pool.
 fn number_at(sightings: &[Sighting], pool: u64, place: u32) -> Option<u32> {
     match shown_at(sightings, place) {
@@ -44,41 +56,59 @@ fn may_be_other(survey: &Survey, known: &Known, image: u32, place: u32) -> bool 
     place >= known.disks() || known.listed.has(place) || survey.sightings.unread.has(image)
 }
 
-/// The images in their right order, by the places that they have now. None where two images show one number, where a
-/// disk of the pool has no image, or where they stand right.
-pub fn right_order(alloc: Global, survey: &Survey) -> Result<Option<Vec<u32>>, AllocError> {
+/// The words for the images in their right order. None where two images show one number, where no image shows a disk
+/// that the pool counts on, or where they stand right.
+pub fn right_order(alloc: Global, survey: &Survey) -> Result<Option<Vec<Word>>, AllocError> {
     match &survey.pool {
         Pool::Chosen(known) | Pool::Likely(known) => order_of(alloc, survey, known),
         Pool::Untold => Ok(None),
     }
 }
 
-fn order_of(alloc: Global, survey: &Survey, known: &Known) -> Result<Option<Vec<u32>>, AllocError> {
-    if !known.unnamed().is_empty() {
-        return Ok(None);
-    }
-    let sightings = &survey.sightings.list;
+fn order_of(
+    alloc: Global,
+    survey: &Survey,
+    known: &Known,
+) -> Result<Option<Vec<Word>>, AllocError> {
     let mut order = Vec::new(alloc);
     let mut moved = false;
+    let mut used: u32 = 0;
     let mut next = 0;
-    for place in 0..known.named.min(LOOKED_AT) {
-        let image = match image_of(sightings, known, place) {
-            Some(image) => image,
-            None => match next_other(sightings, known, next) {
-                Some(image) if may_be_other(survey, known, image, place) => {
-                    next = image.saturating_add(1);
-                    image
-                }
-                _ => return Ok(None),
-            },
+    let mut last = 0;
+    for place in 0..known.named.max(known.disks()).min(LOOKED_AT) {
+        let Some(word) = word_for(survey, known, next, place) else {
+            return Ok(None);
         };
-        moved = moved || image != place;
-        order.push(image)?;
+        order.push(word)?;
+        if let Word::Image(image) = word {
+            moved = moved || image != place;
+            used = used.saturating_add(1);
+            last = order.len();
+            if number_at(&survey.sightings.list, known.uber.pool(), image).is_none() {
+                next = image.saturating_add(1);
+            }
+        }
     }
-    if moved && known.named <= LOOKED_AT {
+    // Behind the last image no word is needed.
+    order.truncate(last);
+    if moved && used == known.named {
         Ok(Some(order))
     } else {
         Ok(None)
+    }
+}
+
+/// The word for this place: the image that shows it, or the next that does not show the pool, or none for a disk that
+/// the pool goes on without.
+fn word_for(survey: &Survey, known: &Known, next: u32, place: u32) -> Option<Word> {
+    let sightings = &survey.sightings.list;
+    if let Some(image) = image_of(sightings, known, place) {
+        return Some(Word::Image(image));
+    }
+    match next_other(sightings, known, next) {
+        Some(image) if may_be_other(survey, known, image, place) => Some(Word::Image(image)),
+        None if place < known.disks() && known.listed.has(place) => Some(Word::Lost),
+        _ => None,
     }
 }
 
@@ -116,12 +146,17 @@ pub fn ordered_words(
     alloc: Global,
     names: &[String],
     command: &[String],
-    order: &[u32],
+    order: &[Word],
 ) -> Result<String, AllocError> {
     let mut line = String::new(alloc);
-    for image in order {
-        if let Some(name) = names.get(*image as usize) {
-            push_word(&mut line, name.as_str())?;
+    for word in order {
+        match word {
+            Word::Image(image) => {
+                if let Some(name) = names.get(*image as usize) {
+                    push_word(&mut line, name.as_str())?;
+                }
+            }
+            Word::Lost => push_word(&mut line, LOST)?,
         }
     }
     for word in command {

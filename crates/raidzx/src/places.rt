@@ -2,7 +2,8 @@
 ghost use Rattle.std.specs.Prelude.{◌≡◌, ◌<◌, ◌≤◌, ◌⊎◌, ◌↔◌, ℕ, IfSome, IsTrue, true, false};
 ghost use Rattle.std.specs.List.{Any};
 ghost use Rattle.uberblock_ring.specs.Devices.{has_device};
-ghost use Rattle.raidzx.specs.Places.{IsElsewhereAt, ShowsElsewhere};
+ghost use Rattle.uberblock_ring.specs.Valid.{AreAlike};
+ghost use Rattle.raidzx.specs.Places.{AreListed, IsElsewhereAt, IsListedBy, IsListedOut, ShowsElsewhere};
 
 use crate::sightings::{LOOKED_AT, Sighting};
 use uberblock_ring::{DeviceSet, Uber};
@@ -58,18 +59,41 @@ fn is_unnamed(named: u32, listed: DeviceSet, place: u32) -> bool
 }
 
 /// The disks that the group of this uberblock lists as out, as the images show it.
-pub fn listed_out(sightings: &[Sighting], uber: &Uber) -> DeviceSet {
-    let mut out = uber.out();
-    for sighting in sightings {
-        if sighting.number == sighting.place && are_alike(&sighting.uber, uber) {
-            out = both(out, sighting.uber.out());
-        }
-    }
-    out
+pub fn listed_out(sightings: &[Sighting], uber: &Uber) -> DeviceSet
+    ensures { AreListed sightings.now uber.now result }
+{
+    places_where(|place| is_listed_out(sightings, uber, place))
+}
+
+/// Whether the group of this uberblock lists the disk of this place as out, as the images show it.
+fn is_listed_out(sightings: &[Sighting], uber: &Uber, place: u32) -> bool
+    ensures { IsTrue result ↔ IsListedOut sightings.now uber.now place }
+{
+    uber.out().has(place) || is_listed_by_any(sightings, uber, place)
+}
+
+fn is_listed_by_any(sightings: &[Sighting], uber: &Uber, place: u32) -> bool
+    ensures { IsTrue result
+        ↔ Any (λ sighting. IsListedBy sighting uber.now place) sightings.now }
+{
+    sightings
+        .iter()
+        .any(|sighting| is_listed_by(sighting, uber, place))
+}
+
+fn is_listed_by(sighting: &Sighting, uber: &Uber, place: u32) -> bool
+    ensures { IsTrue result ↔ IsListedBy sighting.now uber.now place }
+{
+    sighting.uber.out().has(place)
+        && sighting.number == sighting.place
+        && are_alike(&sighting.uber, uber)
 }
 
 /// Whether they differ in nothing but the disks that they list as out.
-fn are_alike(one: &Uber, other: &Uber) -> bool {
+#[tactic(auto, using(crate::proofs::AlikeUbers::alike_by))]
+fn are_alike(one: &Uber, other: &Uber) -> bool
+    ensures { IsTrue result ↔ AreAlike one.now other.now }
+{
     let mut alike = *one;
     alike.set_out(other.out());
     alike == *other

@@ -20,6 +20,8 @@ pub struct ScriptBytes {
     at: usize,
     /// What stands behind them could not be read.
     is_cut: bool,
+    /// How many calls were made.
+    made: u64,
     faults: u64,
     ghost within: { at ≤ length bytes.items },
 }
@@ -35,6 +37,7 @@ impl ScriptBytes {
             bytes,
             at: 0,
             is_cut,
+            made: 0,
             faults: 0,
         }
     }
@@ -63,7 +66,10 @@ impl Source for ScriptBytes {
 
     ghost faults = { λ s. s.faults };
 
+    ghost reads = { λ s. s.made };
+
     fn read(&mut self, into: &mut [u8]) -> Result<usize, Failed> {
+        self.made = self.made.saturating_add(1);
         let count = into.len().min(self.bytes.len() - self.at);
         if count == 0 && self.is_cut {
             self.faults = self.faults.saturating_add(1);

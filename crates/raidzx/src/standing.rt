@@ -52,6 +52,7 @@ pub struct Known {
 
 impl Known {
     ghost use Rattle.std.specs.Prelude.{◌≡◌, ◌↔◌, ℕ, IsTrue, true};
+    ghost use Rattle.raidzx.specs.Places.{AreListed};
     ghost use Rattle.raidzx.specs.Standing.{IsAboutToJoin};
     ghost use Rattle.uberblock_ring.specs.Devices.{has_device};
     ghost use Rattle.raidzx.specs.Unnamed.{IsUnnamed};
@@ -60,6 +61,7 @@ impl Known {
     pub fn by_found(named: u32, sightings: &Sightings, found: &Found) -> Known
         ensures named { result.named ≡ named }
         ensures uber { result.uber ≡ found.now.uber }
+        ensures listed { AreListed sightings.now.list.items found.now.uber result.listed }
         ensures out { result.out ≡ found.now.out }
     {
         Known {
@@ -74,6 +76,7 @@ impl Known {
     pub fn by_greatest(named: u32, sightings: &Sightings, uber: &Uber) -> Known
         ensures named { result.named ≡ named }
         ensures uber { result.uber ≡ uber.now }
+        ensures listed { AreListed sightings.now.list.items uber.now result.listed }
         ensures out { result.out ≡ result.listed }
     {
         let listed = listed_out(&sightings.list, uber);

@@ -1,5 +1,6 @@
 -- The commands that are carried out, and their words one by one.
 use Rattle.std.specs.Prelude.{◌≡◌, ℕ, ◌^◌, ◌<◌, List, length, slice_get, Some, false, codes, decimal}
+use Rattle.raidzx_top.specs.Call.{ReadsScript}
 use Rattle.raidzx_top.specs.Words.{Command, Create, Run, Replay, Status, IsCommand, IsSize}
 use Rattle.raidzx_top.specs.declared.words.NewPool.{NewPool}
 use Rattle.raidzx_top.specs.declared.words.ServedCommand.{ServedCommand}
@@ -43,3 +44,7 @@ IsServedAs words given = IsCommand words (command_of given)
 -- The words are a command that is carried out. (Others come with later work, and are none till then.)
 abbrev pub IsServed : List (List ℕ) → Type 0
 IsServed words = (given : ServedCommand) × IsServedAs words given
+
+-- No command that is carried out by these words reads a script.
+abbrev pub AsksNoScript : List (List ℕ) → Type 0
+AsksNoScript words = (given : ServedCommand) → IsServedAs words given → ReadsScript (command_of given) → ⊥

@@ -1,5 +1,6 @@
 // Carrying out `run` and `replay`.
-ghost use Rattle.std.specs.Prelude.{◌≡◌, ◌<◌, ◌≤◌, ◌↔◌, [], All, IfErr, IfOk, IsTrue, OnOk};
+ghost use Rattle.std.specs.Prelude.{◌≡◌, ◌+◌, ◌<◌, ◌≤◌, ◌↔◌, [], All, IfErr, IfOk, IsTrue, OnOk};
+ghost use Rattle.client_script.specs.FromSource.{most_reads};
 ghost use Rattle.client_script.specs.Script.{IsAllowed};
 ghost use Rattle.raidzx_top.specs.Call.{stream_of};
 ghost use Rattle.raidzx_top.specs.Running.{AnswersSo, EndsScript, EndsRun, EndsTelling, HasCarried, HasMet, IsStatusOf};
@@ -96,6 +97,7 @@ fn read<S: Source>(alloc: Global, source: &mut S, journal: &mut Journal) -> Resu
         (stream_of (S.left source.new) (S.faults source.new)) result }
     ensures items { journal.new.items ≡ journal.old.items }
     ensures room { OnOk result (1 ≤ journal.new.room) }
+    ensures few_reads { S.reads source.new ≤ S.reads source.old + most_reads }
 {
     let script = read_script(alloc, source)?;
     journal.reserve(1)?;
@@ -151,11 +153,12 @@ pub fn run<R: Threads + Wait + Sync, G: Gate + Sync, B: Bank + Send, S: Source, 
     source: &mut S,
     out: &mut K,
 ) -> Outcome<B>
-    ensures { EndsRun order (stream_of (S.left source.old) (S.faults source.old))
+    ensures ends { EndsRun order (stream_of (S.left source.old) (S.faults source.old))
         (stream_of (S.left source.new) (S.faults source.new))
         (stream_of (K.held out.old) (K.faults out.old))
         (stream_of (K.held out.new) (K.faults out.new))
         (B.disk bank) (B.disk result.bank) result.journal.items result.status result.turns }
+    ensures few_reads { S.reads source.new ≤ S.reads source.old + most_reads }
 {
     let mut journal = Journal::new(host.alloc);
     let script = match read(host.alloc, source, &mut journal) {

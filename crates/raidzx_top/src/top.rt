@@ -1,7 +1,9 @@
 // The top call: it carries out the command that the words spell.
-ghost use Rattle.std.specs.Prelude.{map, string_bytes};
+ghost use Rattle.std.specs.Prelude.{◌≡◌, ◌+◌, ◌≤◌, map, string_bytes};
 ghost use Rattle.bank_trait.specs.Disk.{Lawful};
+ghost use Rattle.client_script.specs.FromSource.{most_reads};
 ghost use Rattle.raidzx_top.specs.Call.{call_of, stream_of};
+ghost use Rattle.raidzx_top.specs.Spelled.{AsksNoScript};
 ghost use Rattle.raidzx_top.specs.Making.{EndsCreate};
 ghost use Rattle.raidzx_top.specs.Ending.{Ends};
 ghost use Rattle.raidzx_top.specs.Promises.{CallPromises};
@@ -45,13 +47,16 @@ fn carry_out<R: Threads + Wait + Sync, G: Gate + Sync, B: Bank + Send, S: Source
     script: &mut S,
     out: &mut K,
 ) -> Outcome<B>
-    ensures { Ends (call_of (map string_bytes words.now)
+    ensures ends { Ends (call_of (map string_bytes words.now)
         (B.disk bank) (B.disk result.bank)
         (stream_of (S.left script.old) (S.faults script.old))
         (stream_of (S.left script.new) (S.faults script.new))
         (stream_of (K.held out.old) (K.faults out.old))
         (stream_of (K.held out.new) (K.faults out.new))
         result.status result.journal.items result.turns) }
+    ensures few_reads { S.reads script.new ≤ S.reads script.old + most_reads }
+    ensures unread { AsksNoScript (map string_bytes words.now)
+        → S.reads script.new ≡ S.reads script.old }
 {
     match read_command(words) {
         None => Outcome::without_turns(host.alloc, refuse(out, Status::Usage), bank),
@@ -95,6 +100,9 @@ pub fn raidzx<R: Threads + Wait + Sync, B: Bank + Send, S: Source, K: Sink, G: G
         (stream_of (K.held out.old) (K.faults out.old))
         (stream_of (K.held out.new) (K.faults out.new))
         result.status result.journal.items result.turns) }
+    ensures few_reads { S.reads script.new ≤ S.reads script.old + most_reads }
+    ensures unread { AsksNoScript (map string_bytes words.now)
+        → S.reads script.new ≡ S.reads script.old }
 {
     laws_hold(&bank);
     carry_out(&Host { rt, alloc, gate }, words, bank, script, out)

@@ -5,8 +5,8 @@ use Rattle.schedule.specs.declared.whole_run.Ran.{Ran}
 use Rattle.raidzx_top.specs.Running.{IsUnopened, Unopened}
 use Rattle.raidzx_top.proofs.running.run.Goals as goal
 
-pub returns-in-Err : goal.returns-in-Err
-returns-in-Err g c = rw (
+pub returns-in-Err-clause-ends : goal.returns-in-Err-clause-ends
+returns-in-Err-clause-ends g c = rw (
   c.without_turns.ensures.status,
   c.without_turns.ensures.turns,
   c.without_turns.ensures.bank,
@@ -19,8 +19,8 @@ returns-in-Err g c = rw (
   said = c.refuse.ensures.said;
 }))
 
-pub returns-in-Err-ran : goal.returns-in-Err-ran
-returns-in-Err-ran g c = rw (
+pub returns-in-Err-ran-clause-ends : goal.returns-in-Err-ran-clause-ends
+returns-in-Err-ran-clause-ends g c = rw (
   c.without_turns-in-Err-ran.ensures.status,
   c.without_turns-in-Err-ran.ensures.turns,
   c.without_turns-in-Err-ran.ensures.bank,

@@ -1,0 +1,67 @@
+-- What a survey says of the pool is what is found after the rings were read.
+use Rattle.std.proofs.Common.{◌≡◌, ℕ, ◌<◌, sym, ◌∙◌, ap, subst, inl, inr}
+use Rattle.bank_trait.specs.Disk.{Disk, Image, Unchanged}
+use Rattle.uberblock_ring.specs.Devices.{count_of}
+use Rattle.core_state.specs.Shown.{Shape}
+use Rattle.core_open.specs.declared.finding.Found.{Found}
+use Rattle.core_open.specs.declared.why.OpenWhy.{OpenWhy}
+use Rattle.core_open.specs.declared.why.OpenWhy.TheVariants.{NoMemory}
+use Rattle.core_open.specs.Failing.{HaveFailed}
+use Rattle.core_open.specs.Finding.{IsFindCause, IsFoundIn}
+use Rattle.core_open.specs.Holds.{HoldsImage, shape_of}
+use Rattle.core_open.proofs.Unchanged.{holds_then, shape_then}
+use Rattle.raidzx.specs.declared.door.Pool.{Pool}
+use Rattle.raidzx.specs.declared.door.Pool.TheVariants.{Chosen, Likely, Untold}
+use Rattle.raidzx.specs.declared.door.Survey.{Survey}
+use Rattle.raidzx.specs.declared.standing.Known.{Known}
+use Rattle.raidzx.specs.Surveyed.{FindsNone, FindsPool, IsPoolOf}
+use Rattle.raidzx.proofs.Listed.{failed_before, none_before}
+
+-- what is known of a pool, or this where it is not told
+known_in : Known → Pool → Known
+known_in other (Chosen known) = known
+known_in other (Likely known) = known
+known_in other Untold = other
+
+-- What was made of the pool that was found is all that is told as chosen.
+pub made_chosen : (found : Found) (named : ℕ) (survey : Survey) (made known : Known) → survey.pool ≡ Chosen made
+    → IsPoolOf found named survey made → survey.pool ≡ Chosen known → IsPoolOf found named survey known
+made_chosen found named survey made known is all told =
+    subst (λ (one : Known). IsPoolOf found named survey one) (ap (known_in made) (sym is ∙ told)) all
+
+module _ (old mid new : Disk) (same : Unchanged old mid) (survey : Survey) where
+  found_then : (found : Found) (image : Image) → HoldsImage old image
+      → ((held : Image) → HoldsImage mid held → IsFoundIn (shape_of mid) held found)
+      → IsFoundIn (shape_of old) image found
+  found_then found image holds chosen = subst (λ (shape : Shape). IsFoundIn shape image found)
+      (shape_then same) (chosen image (holds_then same holds))
+
+  -- The pool that is told as chosen is the one that was found,
+  pub chosen_found : (found : Found) (named : ℕ) → named ≡ old.devices
+      → ((known : Known) → survey.pool ≡ Chosen known → IsPoolOf found named survey known)
+      → HaveFailed mid new found.silent
+      → ((held : Image) → HoldsImage mid held → IsFoundIn (shape_of mid) held found)
+      → FindsPool old new survey
+  chosen_found found named all is failed chosen = λ known told. record {
+    found = found;
+    is = subst (λ (devices : ℕ). IsPoolOf found devices survey known) all (is known told);
+    silent = failed_before old mid new same found.silent failed;
+    chosen = λ image holds. found_then found image holds chosen;
+  }
+
+  -- the one that is likely alone has too many devices out,
+  pub likely_found : (found : Found)
+      → ((known : Known) → survey.pool ≡ Likely known → found.uber.parity < count_of found.out)
+      → HaveFailed mid new found.silent
+      → ((held : Image) → HoldsImage mid held → IsFoundIn (shape_of mid) held found)
+      → FindsNone old new survey
+  likely_found found many failed chosen = λ known told image holds. inr (record {
+    found = found;
+    silent = failed_before old mid new same found.silent failed;
+    chosen = found_then found image holds chosen;
+    many = many known told;
+  })
+
+  -- or none was found.
+  pub likely_none : (why : OpenWhy) → (why ≡ NoMemory → ⊥) → IsFindCause mid new why → FindsNone old new survey
+  likely_none why memory cause = λ known told image holds. inl (none_before old mid new same image why holds memory cause)
