@@ -39,7 +39,7 @@ untold_handed bytes x row (Ok done) none = record {
 }
 untold_handed bytes x row (Err count) none = subst (λ (n : ℕ). HandedOver (untold bytes) (untold bytes) x row (Err n))
     (sym none) (record {
-  last = λ moment le by. le;
-  done = tt;
-  stopped = (omega arith, row_starts (untold bytes) x row);
-})
+      last = λ moment le by. le;
+      done = tt;
+      stopped = (omega arith, row_starts (untold bytes) x row);
+    })

@@ -1,5 +1,6 @@
 -- The groups of a run whose journal grows by one item.
-use Rattle.std.proofs.Common.{[], ◌≡◌, ℕ, zero, suc, ◌<◌, ◌≤◌, List, ◌∷◌, ◌++◌, length, Some, refl, sym, ◌∙◌, ap, subst}
+use Rattle.std.proofs.Common.{[], ◌≡◌, ℕ, zero, suc, ◌+◌, ◌<◌, ◌≤◌, List, ◌∷◌, ◌++◌, length, Some, refl}
+use Rattle.std.proofs.Common.{sym, ◌∙◌, ap, subst}
 use Rattle.std.proofs.Common.{arith}
 use Rattle.std.specs.Prelude.{Contains}
 use Rattle.std.specs.List.{AllZip}
@@ -13,9 +14,10 @@ use Rattle.core_state.specs.Map.{Map, PutBytes}
 use Rattle.core_state.specs.Legal.{GroupAt, IsGroupBefore}
 use Rattle.core_state.specs.Journal.{Calls, GroupsAreRight}
 use Rattle.core_state.specs.Keeps.{Kept}
-use Rattle.core_state.specs.Moment.{AwaitsAttach, groups_in, item_of, IsGroupOf, IsBegunAfter, IsUnanswered, Groups}
+use Rattle.core_state.specs.Moment.{AwaitsAttach, IsAnsweredWithin, groups_in, item_of, IsGroupOf, IsBegunAfter}
+use Rattle.core_state.specs.Moment.{IsUnanswered, Groups}
 use Rattle.core_state.proofs.Listed.{contains_none}
-use Rattle.journal_law.proofs.Grown.{first_has, map_before}
+use Rattle.journal_law.proofs.Grown.{first_has, grown_has, map_before}
 use Rattle.journal_law.proofs.GrownGroups.{group_of_grown, after_listed, width_step_where}
 
 -- The groups of a journal with a new item.
@@ -73,6 +75,18 @@ each_pushed handed opening items (first ∷ groups) [] group kept each is = absu
 each_pushed handed opening items (other ∷ groups) (first ∷ answered) group kept each is =
     (each.0, each_pushed handed opening items groups answered group kept each.1 is)
 
+-- A journal that has grown answers what it answered.
+answered_grown : (items more : List Item) (after caller call : ℕ) → IsAnsweredWithin items after caller call
+    → IsAnsweredWithin (items ++ more) after caller call
+answered_grown items more after caller call is = record {
+  index = is.index;
+  entry = is.entry;
+  there = grown_has items more is.index (Call is.entry) is.there;
+  within = is.within;
+  own = is.own;
+  number_is = is.number_is;
+}
+
 -- An attach that was to be answered then is told so by a journal that has grown.
 pub awaits_grown : (calls : Calls) (items more : List Item) (after : ℕ) → after ≤ length items
     → AwaitsAttach calls items after → AwaitsAttach calls (items ++ more) after
@@ -80,6 +94,7 @@ awaits_grown calls items more after within awaits = record {
   caller = awaits.caller;
   number = awaits.number;
   asked = awaits.asked;
+  earlier = λ call low. answered_grown items more after awaits.caller (call + 1) (awaits.earlier call low);
   before = λ index entry below there. awaits.before index entry below
       (first_has items more index (Call entry) (omega (arith, below, within)) there);
 }

@@ -1,4 +1,3 @@
-pub mod AlikeUbers
 pub mod LastGroups
 pub mod Listed
 pub mod Refusing

@@ -26,6 +26,7 @@ known_in other Untold = other
 -- What was made of the pool that was found is all that is told as chosen.
 pub made_chosen : (found : Found) (named : ℕ) (survey : Survey) (made known : Known) → survey.pool ≡ Chosen made
     → IsPoolOf found named survey made → survey.pool ≡ Chosen known → IsPoolOf found named survey known
+unfolding known_in
 made_chosen found named survey made known is all told =
     subst (λ (one : Known). IsPoolOf found named survey one) (ap (known_in made) (sym is ∙ told)) all
 

@@ -9,7 +9,7 @@ use Rattle.core_turns.specs.declared.filling.ToFill.{ToFill}
 use Rattle.core_turns.specs.declared.solving.SolvedFrom.{SolvedFrom}
 use Rattle.core_turns.specs.Core.{Core}
 use Rattle.core_turns.specs.Getting.{IsAlike, IsSolvable, IsSolved, to_solve_of}
-use Rattle.core_turns.specs.Putting.{IsFillable, IsMadeUp, left_to_fill}
+use Rattle.core_turns.specs.Putting.{IsFillable, IsMadeUp, left_to_fill, to_fill_of}
 use Rattle.schedule.specs.declared.computing.ToCompute.{ToCompute}
 use Rattle.schedule.specs.declared.computing.ToCompute.TheVariants as to_compute
 use Rattle.schedule.specs.declared.computing.Computed.{Computed}
@@ -85,6 +85,13 @@ IsComputed asked other = ⊥
 abbrev pub for_call : ℕ → Computed → Computed
 for_call number (computed.Filled other made) = if other == number then computed.Filled other made else computed.Nothing
 for_call number other = other
+
+-- It was computed for what this call has under way: for the block of a put that was not filled in yet, or from what a
+-- read has.
+abbrev pub FitsWork : Work → Computed → Type 0
+FitsWork (work.Put run) (computed.Filled number made) = made.value.block ≡ to_fill_of run
+FitsWork (work.Read run) (computed.Solved from) = IsAlike from.value.block (to_solve_of run)
+FitsWork does given = ⊥
 
 -- the block of a put in it
 abbrev pub block_in : Computed → Option (Box MadeUp)

@@ -7,6 +7,7 @@ pub mod Clients
 pub mod Running
 pub mod Numbered
 pub mod Using
+pub mod Digests
 pub mod Dropping
 pub mod Fitting
 pub mod Coming

@@ -1,5 +1,5 @@
 -- What one turn of a client does.
-use Rattle.std.specs.Prelude.{◌≡◌, ◌⊎◌, ℕ, ◌+◌, ◌-◌, ◌<◌, List, [], ◌∷◌, ◌++◌, length, Option, Some, None}
+use Rattle.std.specs.Prelude.{◌≡◌, ◌⊎◌, ℕ, ◌+◌, ◌-◌, ◌<◌, ◌≤◌, List, [], ◌∷◌, ◌++◌, length, Option, Some, None}
 use Rattle.std.specs.Prelude.{slice_get, ⊤}
 use Rattle.bank_trait.specs.Disk.{Disk, Unchanged}
 use Rattle.reflow_mark.specs.declared.reflow.Reflow.{Reflow}
@@ -12,6 +12,7 @@ use Rattle.core_state.specs.declared.item.Entry.{Entry}
 use Rattle.core_state.specs.declared.item.Group.{Group as GroupItem}
 use Rattle.core_state.specs.declared.item.Item.{Item}
 use Rattle.core_state.specs.declared.item.Item.TheVariants.{Group, Call}
+use Rattle.core_state.specs.Legal.{CallAt}
 use Rattle.core_blocks.specs.declared.range.PutRange.{PutRange}
 use Rattle.core_blocks.specs.Blocks.{AreUnderWay, IsUnderWay}
 use Rattle.core_blocks.specs.Kept.{NoneFree}
@@ -216,6 +217,11 @@ listed_for core items at entry made given = listed_with core.pool.uber.reflow it
 abbrev pub listed_on : Reflow → List Item → ℕ → Option ℕ → List Item
 listed_on widths items at None = items
 listed_on widths items at (Some number) = items ++ Group (group_with widths at number) ∷ []
+
+-- No call that a journal tells more of was answered so.
+abbrev pub ListsNone : Answer → List Item → List Item → Type 0
+ListsNone given old new =
+    (index : ℕ) (entry : Entry) → length old ≤ index → CallAt new index entry → entry.answer ≡ given → ⊥
 
 -- ---- a turn
 

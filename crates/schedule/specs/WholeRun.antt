@@ -28,6 +28,7 @@ use Rattle.core_open.specs.Pool.{first_item}
 use Rattle.schedule.specs.declared.whole_run.Ran.{Ran}
 use Rattle.schedule.specs.Caused.{AnswersAreCaused}
 use Rattle.schedule.specs.Coming.{AttachesNone}
+use Rattle.schedule.specs.Digests.{ReadsAreKnown}
 use Rattle.schedule.specs.Dropping.{IsDropCause}
 use Rattle.schedule.specs.Fitting.{FitsCall}
 use Rattle.schedule.specs.InTurn.{Cursor, HaveTaken, InOrder, replay_at}
@@ -152,6 +153,8 @@ pub record HasRun (script : Script) (old new : Disk) (items : List Item) (out : 
   pub devices : DevicesAreSpared script old new silent opened.to parity out
       (last_left (first_turns script start opened) passed).state.core.reach
   pub answers : AnswersCalls script old new items parity out
+  -- whatever the devices hold
+  pub reads : ReadsAreKnown script start.core.pool.blocks.table.entries items
   -- the devices whose failure has to be borne
   pub borne : ℕ
   pub bears : AreToBeBorne borne silent opened.to start.core.pool.uber.out parity out

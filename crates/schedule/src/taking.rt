@@ -9,9 +9,10 @@ ghost use Rattle.core_turns.specs.Core.{IsCore, HasBankOf, at_disk};
 ghost use Rattle.core_turns.specs.Steps.{turn_with};
 ghost use Rattle.schedule.specs.declared.client.UnderWay.{UnderWay as UnderWayOf};
 ghost use Rattle.schedule.specs.Playing.{MakesRoom, UsesRoom, owed, taken_for};
-ghost use Rattle.schedule.specs.Computing.{IsComputedFor, IsComputedOf};
+ghost use Rattle.core_state.specs.declared.answer.Answer.TheVariants as answer;
+ghost use Rattle.schedule.specs.Computing.{FitsWork, IsComputedFor, IsComputedOf, for_call};
 ghost use Rattle.schedule.specs.Turned.{GoesOnBy, HasDeviceFor, HasDeviceForTurn, HasDeviceUnder, MayGoOn, Turned};
-ghost use Rattle.schedule.specs.Turned.{WorkGoesOn, entry_for, group_by, group_with, listed_on, listed_with};
+ghost use Rattle.schedule.specs.Turned.{ListsNone, WorkGoesOn, entry_for, group_by, group_with, listed_on, listed_with};
 ghost use Rattle.schedule.specs.Turned.{turn_state};
 ghost use Rattle.schedule.specs.Works.{begun_at, commit_in};
 
@@ -134,6 +135,7 @@ fn go_further<B: Bank>(
     ensures bank { HasBankOf core.new (B.disk bank.new) }
     ensures items { journal.new.items ≡ journal.old.items }
     ensures room { MakesRoom work.old journal.old.room journal.new.room (turn_with work.new result) }
+    ensures taken { FitsWork work.old computed → result ≡ Some answer.NoMemory → ⊥ }
 {
     match make_room(journal, work.made()) {
         Ok(()) => go_on(alloc, bank, core, call, work, computed),
@@ -209,6 +211,11 @@ pub fn take_turn<B: Bank>(
     ensures bank { HasBankOf core.new (B.disk bank.new) }
     ensures lawful { Lawful (B.disk bank.old) × Lawful (B.disk bank.new) }
     ensures room { UsesRoom journal.old.room journal.new.room client.old client.new }
+
+    // What was computed for the call under way is taken: it is not answered then that there is no memory.
+    ensures taken { (under : UnderWayOf) → client.old.under_way ≡ Some under
+        → FitsWork under.work (for_call (client.old.begun - 1) computed)
+        → ListsNone answer.NoMemory journal.old.items journal.new.items }
 {
     // That the core is one is known by a call of it.
     let _ = core.reflow();

@@ -9,11 +9,12 @@ ghost use Rattle.client_script.specs.Lines.{fill_bytes};
 ghost use Rattle.client_script.specs.Script.{IsAllowed};
 ghost use Rattle.core_turns.specs.declared.filling.Filled.{Filled as FilledOf};
 ghost use Rattle.core_turns.specs.Core.{Core as CoreOf, at_disk, HasBankOf};
-ghost use Rattle.core_turns.specs.Getting.{IsGetOf, IsReadKind, SolvesGet};
+ghost use Rattle.core_turns.specs.Getting.{IsAlike, IsGetOf, IsReadKind, SolvesGet, to_solve_of};
 ghost use Rattle.core_turns.specs.Putting.{IsFillable, IsPutOf, to_fill_of};
 ghost use Rattle.core_turns.specs.Steps.{turn_with};
 ghost use Rattle.core_turns.specs.UnderWay.{TurnGoesOn};
-ghost use Rattle.schedule.specs.Computing.{IsMadeUpOf, IsComputedOf, IsSolvedOf};
+ghost use Rattle.core_state.specs.declared.answer.Answer.TheVariants as answer;
+ghost use Rattle.schedule.specs.Computing.{FitsWork, IsMadeUpOf, IsComputedOf, IsSolvedOf};
 ghost use Rattle.schedule.specs.Turned.{BeginsCall, GoesOnBy, HasDeviceFor, HasDeviceForTurn, HasTableOf, IsFilledIn};
 ghost use Rattle.schedule.specs.Turned.{IsOfPool, MayGoOn, PutGoesOn, ReadGoesOn, WorkGoesOn, WritesOn};
 
@@ -116,6 +117,7 @@ fn fill_in(alloc: Global, call: &ScriptCall, run: &mut PutRun, made: Option<Box<
     ensures fills { result ≡ true → IsFilledIn call.now run.old run.new }
     ensures filled { result ≡ true → (filled : FilledOf) × (run.new.filled ≡ Some filled) }
     ensures no_memory { result ≡ false → (run.new ≡ run.old) × (run.old.filled ≡ None) }
+    ensures taken { IfSome made (λ made. made.value.block ≡ to_fill_of run.old → result ≡ true) }
 {
     if run.is_filled() {
         return true;
@@ -167,6 +169,9 @@ fn go_on_putting<B: Bank>(
         call.now run.old (turn_with run.new result) }
     ensures goes_on { TurnGoesOn (at_disk core.old (B.disk bank.old))
         (at_disk core.new (B.disk bank.new)) }
+
+    // A block that was made up for this put is taken: there is memory for the put then.
+    ensures taken { IfSome made (λ made. made.value.block ≡ to_fill_of run.old → result ≡ Some answer.NoMemory → ⊥) }
 {
     if fill_in(alloc, call, run, made) {
         write_on(bank, core, run)
@@ -179,7 +184,8 @@ fn go_on_putting<B: Bank>(
 fn solve(alloc: Global, run: &mut GetRun, solved: Option<Box<SolvedFrom>>)
     requires len { sectors_for run.old.entry.len ≡ run.old.read.layout.sectors }
     requires solved { IfSome solved (λ from. IsSolvedOf from.value) }
-    ensures { (run.new ≡ run.old) ⊎ SolvesGet run.old run.new }
+    ensures solves { (run.new ≡ run.old) ⊎ SolvesGet run.old run.new }
+    ensures taken { IfSome solved (λ from. IsAlike from.value.block (to_solve_of run.old) → SolvesGet run.old run.new) }
 {
     if let Some(solved) = solved {
         if run.take_solved(Box::into_inner(solved)) {
@@ -205,6 +211,10 @@ fn go_on_reading<B: Bank>(
         (at_disk core.new (B.disk bank.new)) run.old (turn_with run.new result) }
     ensures goes_on { TurnGoesOn (at_disk core.old (B.disk bank.old))
         (at_disk core.new (B.disk bank.new)) }
+
+    // A block that was solved for this read is taken: there is memory for the read then.
+    ensures taken { IfSome solved (λ from. IsAlike from.value.block (to_solve_of run.old)
+        → result ≡ Some answer.NoMemory → ⊥) }
 {
     if !run.is_read() {
         return core.get_read(bank, run);
@@ -290,6 +300,9 @@ pub fn go_on<B: Bank>(
         (at_disk core.new (B.disk bank.new)) }
     ensures there { HasDeviceForTurn (B.disk bank.new) (turn_with work.new result) }
     ensures bank { HasBankOf core.new (B.disk bank.new) }
+
+    // What was computed for this call is taken: there is memory for the call then.
+    ensures taken { FitsWork work.old computed → result ≡ Some answer.NoMemory → ⊥ }
 {
     match work {
         Work::Put(run) => go_on_putting(alloc, bank, core, call, run, computed.into_block()),

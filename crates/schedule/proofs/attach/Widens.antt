@@ -22,27 +22,40 @@ use Rattle.schedule.proofs.turn.Comes.{its_recorded, its_stands, only}
 asking : ScriptCall → Asked
 asking call = record { kind = call.kind; id = call.id }
 
--- An attach that is a client's call under way is to be answered.
+-- An attach that is a client's call under way is to be answered: the client's calls before it were when it began.
 pub awaits_attach : {script : Script} {actor : ℕ} {before after : TurnState} {clients news : List Client}
     {call : ScriptCall} (takes : TakesTurn script actor before after clients news) {under : UnderWay}
     → before.client.under_way ≡ Some under → call.kind ≡ kind.Attach → call.id ≡ None
-    → slice_get (calls_of script actor) (before.client.begun - 1) ≡ Some call → {world : World}
-    → IsWorldOf script world → AwaitsAttach world.calls before.items under.at
+    → slice_get (calls_of script actor) (before.client.begun - 1) ≡ Some call → {world : World} {past : Past}
+    → IsWorldOf script world → Runs world script past before.state before.items clients
+    → AwaitsAttach world.calls before.items under.at
 unfolding asking
-awaits_attach {script} {actor} {before} takes under_is asked no_id is of = record {
-  caller = actor;
-  number = before.client.begun - 1;
-  asked = search (slice_get-map, asking, asked, arith);
-  before = λ index entry below there caller.
-      let its = takes.schedule.answered.each index entry there in
-      let same : its.0 ≡ before.client =
-      some_is (cc) in
-      omega (
-        arith,
-        its.2,
-        ap (λ (c : Client). answered_of c.begun c.under_way) same ∙ ap (answered_of before.client.begun) under_is,
-      );
-}
+awaits_attach {script} {actor} {before} takes under_is asked no_id is of runs =
+    let answered = ap (answered_of before.client.begun) under_is in record {
+      caller = actor;
+      number = before.client.begun - 1;
+      asked = search (slice_get-map, asking, asked, arith);
+      earlier = λ number low.
+          let (index, entry, there, own, number_is) =
+          takes.schedule.answered.every actor number before.client takes.was (rw answered low) in record {
+            index = index;
+            entry = entry;
+            there = there;
+            within = (runs.each actor before.client _ (record { there = takes.was; under_way = under_is })).after index
+                entry there own;
+            own = own;
+            number_is = number_is;
+          };
+      before = λ index entry below there caller.
+          let its = takes.schedule.answered.each index entry there in
+          let same : its.0 ≡ before.client =
+          some_is (cc) in
+          omega (
+            arith,
+            its.2,
+            ap (λ (c : Client). answered_of c.begun c.under_way) same ∙ answered,
+          );
+    }
 
 -- A pool that reaches to one device more has the same calls under way,
 reaching_calls : (core : Core) {calls : List HoldingCall} → AreCallsOf core calls → AreCallsOf (reaching_on core) calls
@@ -93,7 +106,7 @@ module _ {script : Script} {actor : ℕ} {before after : TurnState} {clients new
     listed = begun.listed;
     map = begun.map;
     widths = inr (inr (
-      awaits_attach takes under_is asked.0 asked.1 is of_world,
+      awaits_attach takes under_is asked.0 asked.1 is of_world runs,
       sym last.1 ∙ at_rest ∙ last.0,
       next_from ∙ last.0,
       search next_from,

@@ -1,5 +1,8 @@
 -- The turns of calls.
-use Rattle.schedule.proofs.Words.{◌≡◌, ◌⊎◌, ⊎_elim, ℕ, zero, suc, ◌+◌, length, List, Option, Some, None, refl, ap}
+use Rattle.schedule.proofs.Words.{◌≡◌, ◌⊎◌, ⊎_elim, ℕ, zero, suc, ◌+◌, length, List, [], ◌∷◌, ◌++◌, Option, Some, None}
+use Rattle.schedule.proofs.Words.{refl, ap, subst, sym, ◌∙◌, UnderWay, entry_for}
+use Rattle.schedule.specs.declared.computing.Computed.{Computed}
+use Rattle.schedule.specs.Computing.{FitsWork}
 use Rattle.schedule.proofs.Words.{arith, IsTrue, is_some, false≢true, Disk, Unchanged, rows_of, Uber, OnlyFailedGoOut}
 use Rattle.schedule.proofs.Words.{point_of, read_touches, ScriptCall, fill_bytes, pattern_from, AttachRun, CopyRound}
 use Rattle.schedule.proofs.Words.{IsMoreAttach, StepsAttach, IsMoreRound, StepsCopy, GetRun, ToFill, Blocks, IsUnderWay}
@@ -8,10 +11,26 @@ use Rattle.schedule.proofs.Words.{ReadsTurn, SolvesGet, EndsGet, IsFillable, IsP
 use Rattle.schedule.proofs.Words.{left_to_fill, to_fill_of, TurnGoesOn, reads_reaching, fills_of, Work, MakesRoom}
 use Rattle.schedule.proofs.Words.{taken_for, BeginsCall, GoesOnBy, IsFilledIn, MayGoOn, PutGoesOn, WritesOn, ReadGoesOn}
 use Rattle.schedule.proofs.Words.{WorkGoesOn, MapsTurn, made_in}
-use Rattle.std.specs.Prelude.{◌≤◌}
+use Rattle.std.specs.Prelude.{◌≤◌, IfSome}
+use Rattle.std.specs.Global.{Box}
+use Rattle.std.proofs.lemmas.Bool.{cases_lt}
+use Rattle.std.proofs.lemmas.Option.{slice_get_within}
+use Rattle.core_turns.specs.declared.solving.SolvedFrom.{SolvedFrom}
+use Rattle.core_turns.specs.Getting.{IsAlike, to_solve_of}
+use Rattle.core_turns.specs.Steps.{turn_with}
+use Rattle.core_state.specs.declared.item.Entry.{Entry}
+use Rattle.core_state.specs.declared.item.Item.{Item}
+use Rattle.core_state.specs.declared.item.Item.TheVariants.{Group, Call as CallItem}
+use Rattle.core_state.specs.Legal.{CallAt}
+use Rattle.reflow_mark.specs.declared.reflow.Reflow.{Reflow}
+use Rattle.journal_law.proofs.Grown.{new_or_before}
+use Rattle.schedule.specs.Turned.{ListsNone, group_by, group_with, listed_of, listed_with}
+use Rattle.core_state.specs.declared.answer.Answer.{Answer}
 use Rattle.core_state.specs.declared.answer.Answer.TheVariants as answer
 use Rattle.schedule.specs.declared.client.Work.TheVariants as work
 use Rattle.schedule.proofs.turn.LeavesPool.{pool_goes}
+use Rattle.schedule.proofs.turn.Running.{group_apart}
+use Rattle.schedule.proofs.turn.Theirs.{none_some, some_is}
 use Rattle.schedule.proofs.run.Rooms.{taken_one}
 
 -- ---- first turns
@@ -154,3 +173,75 @@ makes_room does before turn is more = grind (arith, taken_one)
 pub put_writes : (before after : CoreState) (call : ScriptCall) {run filled : PutRun} (turn : Turn PutRun)
     → IsFilledIn call run filled → WritesOn before filled after turn → PutGoesOn before after call run turn
 put_writes before after call turn fills on = grind arith
+
+-- ---- what was computed is taken
+
+same_call : {one other : Entry} → CallItem one ≡ CallItem other → one ≡ other
+same_call same = cc
+
+-- What stands where there is something, stands there still for all that follows from it.
+some_then : {X : Type 0} {P Q : X → Type 0} (given : Option X) → ((x : X) → P x → Q x) → IfSome given P
+    → IfSome given Q
+some_then None then is = is
+some_then (Some x) then is = then x is
+
+-- A put that is filled in is not told of want of memory,
+written_with_memory : (before after : CoreState) (run : PutRun) → WritesOn before run after (Done answer.NoMemory) → ⊥
+written_with_memory before after run on = grind arith
+
+pub put_with_memory : (before after : CoreState) (run : PutRun) (given : Option Answer)
+    → WritesOn before run after (turn_with run given) → given ≡ Some answer.NoMemory → ⊥
+put_with_memory before after run None on is = absurd (none_some is)
+put_with_memory before after run (Some given) on is =
+    written_with_memory before after run (subst (λ a. WritesOn before run after (Done a)) (some_is is) on)
+
+-- nor is a read that is solved.
+solved_with_memory : (old new : Core) {run solved : GetRun} {given : Answer} → SolvesGet run solved
+    → EndsGet old solved new (Done given) → given ≡ answer.NoMemory → ⊥
+solved_with_memory old new {run} {solved} {given} solves ends is = grind (arith, cases_lt)
+
+pub read_with_memory : (old new : Core) (run : GetRun) {solved : GetRun} {given : Answer}
+    (computed : Option (Box SolvedFrom))
+    → IfSome computed (λ from. IsAlike from.value.block (to_solve_of run) → SolvesGet run solved)
+    → EndsGet old solved new (Done given)
+    → IfSome computed (λ from. IsAlike from.value.block (to_solve_of run) → Some given ≡ Some answer.NoMemory → ⊥)
+read_with_memory old new run computed solves ends =
+    some_then computed (λ from solve alike is. solved_with_memory old new (solve alike) ends (some_is is)) solves
+
+-- An answer lists no other call.
+listed_alone : (widths : Reflow) (items : List Item) (at : ℕ) (entry : Entry) (made : Option ℕ) (index : ℕ)
+    (other : Entry) → length items ≤ index → CallAt (listed_of widths items at entry made) index other → other ≡ entry
+listed_alone widths items at entry None index other past there = ⊎_elim
+    (λ last. sym (same_call last.1))
+    (λ earlier. absurd (omega (arith, past, earlier.0)))
+    (new_or_before items (CallItem entry) index (CallItem other) there)
+listed_alone widths items at entry (Some number) index other past there = ⊎_elim
+    (λ last. sym (same_call last.1))
+    (λ earlier. absurd (omega (
+      arith,
+      past,
+      slice_get_within items index (CallItem other)
+          (group_apart items (group_with widths at number) index earlier.1),
+    )))
+    (new_or_before (items ++ Group (group_with widths at number) ∷ []) (CallItem entry) index (CallItem other) there)
+
+pub lists_none : (widths : Reflow) (items : List Item) (at : ℕ) (entry : Entry) (made : Option ℕ) {listed : List Item}
+    {given : Answer} → listed ≡ listed_with widths items at entry made entry.answer → (entry.answer ≡ given → ⊥)
+    → ListsNone given items listed
+lists_none widths items at entry made {given = given} listed_is other index call past there is =
+    other (subst (λ (e : Entry). e.answer ≡ given)
+    (listed_alone widths items at entry (group_by entry.answer made) index call past
+    (subst (λ (l : List Item). CallAt l index call) listed_is there)) is)
+
+-- Where what was computed fits the call under way, it is not answered that there is no memory.
+pub taken_lists : (widths : Reflow) (items : List Item) (at : ℕ) (entry : Entry) (made : Option ℕ) {listed : List Item}
+    (call : ScriptCall) {actor number : ℕ} (began : ℕ) {its under : UnderWay} {way : Option UnderWay}
+    {used fitting : Computed} {result : Option Answer} {given : Answer}
+    → listed ≡ listed_with widths items at entry made entry.answer → entry ≡ entry_for call actor number began given
+    → result ≡ Some given → way ≡ Some its → way ≡ Some under → used ≡ fitting
+    → (FitsWork its.work used → result ≡ Some answer.NoMemory → ⊥) → FitsWork under.work fitting
+    → ListsNone answer.NoMemory items listed
+taken_lists widths items at entry made call began {its = its} {under = under} {fitting = fitting} listed_is entry_is
+    result_is its_is under_is same taken fits = lists_none widths items at entry made listed_is (λ told.
+    taken (rw same (subst (λ (u : UnderWay). FitsWork u.work fitting) (some_is (sym under_is ∙ its_is)) fits))
+    (result_is ∙ ap (λ (a : Answer). Some a) (sym (ap (λ (e : Entry). e.answer) entry_is) ∙ told)))

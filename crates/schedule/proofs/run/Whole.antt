@@ -21,6 +21,7 @@ use Rattle.schedule.proofs.turn.Fitting.{device_cause_on}
 use Rattle.schedule.proofs.turn.Numbered.{first_numbered}
 use Rattle.schedule.proofs.order.OfLines.{follows_lines}
 use Rattle.schedule.proofs.run.Opened.{none_of_blank, resting, opened_world, runs_first}
+use Rattle.schedule.proofs.read.Digests.{first_known, reads_known}
 use Rattle.schedule.proofs.turn.Recording.{recorded_throughout, recorded_keeps, recorded_no_older}
 use Rattle.schedule.proofs.run.UsingOpened.{births_opened, uses_first}
 use Rattle.schedule.proofs.sync.Syncs.{stands_know}
@@ -217,6 +218,8 @@ module _ {script : Script} {old mid : Disk} {pool : Pool} {silent : ℕ} {items 
           (λ index entry there. ⊎_elim (λ at. absurd (no_call item index at)) (λ fit. fit.of_kind)
           (come.journal.fits index entry there)) one actors;
     };
+    reads = rw come.ends at (reads_known script pool.blocks.table.entries first_state passed taken
+        (first_known script pool mid item));
     borne = come.borne;
     bears = record {
       few = come.bears.few;

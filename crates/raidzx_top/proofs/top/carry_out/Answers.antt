@@ -31,7 +31,7 @@ returns-in-Some-Run-clause-ends g c = AsRun (record {
   order = AsTheyCome c.in-Some-Run.attaches;
   served_as = subst (λ (given : ServedCommand). IsServedAs (map string_bytes c.args.words.now) given)
       c.in-Some-Run.field-0-is c.in-Some-Run.ensures.some;
-  ends = c.run.ensures;
+  ends = c.run.ensures.ends;
 })
 
 pub returns-in-Some-Replay-clause-ends : goal.returns-in-Some-Replay-clause-ends
@@ -39,7 +39,7 @@ returns-in-Some-Replay-clause-ends g c = AsRun (record {
   order = AsListed;
   served_as = subst (λ (given : ServedCommand). IsServedAs (map string_bytes c.args.words.now) given)
       c.in-Some-Replay.field-0-is c.in-Some-Replay.ensures.some;
-  ends = c.run-in-Some-Replay.ensures;
+  ends = c.run-in-Some-Replay.ensures.ends;
 })
 
 pub returns-in-Some-Status-clause-ends : goal.returns-in-Some-Status-clause-ends

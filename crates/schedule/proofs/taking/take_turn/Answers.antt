@@ -3,6 +3,7 @@ use Rattle.schedule.proofs.Words.{ScriptCall}
 use Rattle.schedule.specs.Works.{commit_in}
 use Rattle.schedule.proofs.run.Rooms.{ended_uses, going_uses, listed_room, room_to_begin, room_to_end, room_to_go}
 use Rattle.schedule.proofs.turn.TurnStates.{went_more, went_done}
+use Rattle.schedule.proofs.order.CallTurns.{taken_lists}
 use Rattle.schedule.proofs.taking.take_turn.Goals as goal
 
 -- The call under way is the last one that was begun.
@@ -92,3 +93,9 @@ go_further-given-requires-clause-computed g c =
 
 pub returns-in-None-given-clause-there : goal.returns-in-None-given-clause-there
 returns-in-None-given-clause-there g c = c.in-None-given.ensures.there
+
+pub returns-in-Some-given-clause-taken : goal.returns-in-Some-given-clause-taken
+returns-in-Some-given-clause-taken g c = λ under going fits. rw (← c.go_further-given.ensures.items)
+    (taken_lists c.reflow-widths.result c.go_further-given.new.journal.items c.in-Some.under_way.at
+    c.entry_for-entry.result c.group-made.result c.index-calls-number.result c.in-Some.under_way.at
+    c.list_answer.ensures.items c.entry_for-entry.ensures c.in-Some-given.is c.in-Some.is going c.of_call.ensures.value c.go_further-given.ensures.taken fits)
