@@ -375,14 +375,28 @@ once='raidzx: disk3: 1 call failed in this run'
 read_back="1 a.1 get 1 at 1 bytes 61
 2 a.2 get 2 at 2 bytes 62"
 
+# at_fault FAULT: such a run on the pool and one. Of reads, those of a single sector are counted, and those of several
+# fail too: a sector that is read ahead is asked for again alone, and only that counts.
+at_fault() {
+  local fault=$1
+  if [[ $fault = pread64:* ]]; then
+    old_and_one
+    INPUT=script singly disk3 "${IMAGES[@]}" -- replay
+    old_and_one
+    INPUT=script disturbed_singly disk3 "$fault" "${IMAGES[@]}" -- replay
+  else
+    old_and_one
+    INPUT=script disturbed disk3 "$fault" "${IMAGES[@]}" -- replay
+  fi
+}
+
 # fails FAULT TEXT LINE [LINE]: this call on the new image fails. The run answers this and tells these lines, the second
 # that it is out; and so do later runs the two blocks, with all images and without each one but for those that are out.
 fails() {
   local fault=$1 text=$2 number
   shift 2
-  old_and_one
   calls 'puthex 1 61' sync attach 'puthex 2 62' sync 'get 2' attach >script
-  INPUT=script disturbed disk3 "$fault" "${IMAGES[@]}" -- replay
+  at_fault "$fault"
   grep -q INJECTED trace || failed "$fault" 'no call was made to fail'
   was "$fault" 0 "0 group 3 after 0
 1 a.1 put 1 ok
@@ -428,12 +442,41 @@ not_written='4 group 5 after 4
 9 a.6 get 2 at 9 bytes 62
 10 group 7 after 10
 11 a.7 attach width 4 group 7'
+kept_page='4 group 5 after 4
+5 a.3 attach new device failed 3
+6 a.4 put 2 ok
+7 group 6 after 7
+8 a.5 sync group 6
+9 a.6 get 2 at 9 bytes 62
+10 group 7 after 10
+11 a.7 attach new device failed 3'
 for when in 1 32 33 64; do fails pread64:error=EIO:when=$when "$attached" "$expanding"; done
 for when in 65 80 96 97; do fails pread64:error=EIO:when=$when "$not_read" "$new_failed"; done
+# Reads of several sectors that fail are nobody's fault: the ring at the start, and in the opening.
+for when in 2 4; do
+  calls 'puthex 1 61' sync attach 'puthex 2 62' sync 'get 2' attach >script
+  old_and_one
+  INPUT=script disturbed disk3 pread64:error=EIO:when=$when "${IMAGES[@]}" -- replay
+  grep INJECTED trace | grep -qv ', 512, ' || failed "a read ahead of the new image" "$(cat trace)"
+  was 'a read ahead of the new image fails' 0 "0 group 3 after 0
+1 a.1 put 1 ok
+2 group 4 after 2
+3 a.2 sync group 4
+$attached" "$expanding"
+done
+echo 'ok the new image with reads ahead that fail'
 # Its page, and the sync of it. Then it is a device of the pool, and goes out.
+for error in EIO ENOSPC; do
+  fails fdatasync:error=$error:when=1 "$not_written" "$new_failed"
+  # A page that was not written stays with that device, so in this run a second attach fails too. The next one attaches.
+  once='raidzx: disk3: 2 calls failed in this run' fails pwrite64:error=$error:when=1 "$kept_page" "$new_failed
+$new_failed"
+  back disturbed
+  runs 'the next run attaches it' 0 '0 group 9 after 0
+1 group 10 after 1
+2 a.1 attach width 4 group 10' attach
+done
 for call in pwrite64 fdatasync; do
-  fails $call:error=EIO:when=1 "$not_written" "$new_failed"
-  fails $call:error=ENOSPC:when=1 "$not_written" "$new_failed"
   for when in 2 3; do
     fails $call:error=EIO:when=$when "$attached" "$expanding" 'raidzx: disk3: out of the pool for good'
   done
@@ -441,9 +484,8 @@ done
 
 # It fails for good from each of these calls on.
 fails_on() { # FAULT ANSWER
-  old_and_one
   calls 'puthex 1 61' attach 'puthex 2 62' sync >script
-  INPUT=script disturbed disk3 "$1" "${IMAGES[@]}" -- replay
+  at_fault "$1"
   [ $STATUS = 0 ] && grep -q "^[0-9]* a.2 attach $2$" found || failed "$1" "$(cat found told)"
   "$RAIDZX" "${IMAGES[@]}" -- replay <reads 2>told | tail -n +2 | cmp -s - wanted || failed "$1" 'other blocks'
   printf 'ok the new image with %s\n' "$1"
@@ -471,7 +513,9 @@ old_fails() { # NUMBER FAULT ANSWER [LINE]
   "$RAIDZX" "${IMAGES[@]}" -- replay <reads 2>told | tail -n +2 | cmp -s - wanted || failed "$2" 'other blocks'
   printf 'ok disk%s with %s\n' "$1" "$2"
 }
+# The second write hands over the column of the block, which the attach's page does not lie behind.
 for number in 0 1; do
+  old_fails $number pwrite64:error=EIO:when=2 "device out $number" "$(is_out $number)"
   old_fails $number pwrite64:error=EIO:when=3 "device out $number" "$(is_out $number)"
   old_fails $number fdatasync:error=EIO:when=3 "device out $number" "$(is_out $number)"
   old_fails $number pwrite64:error=EIO:when=4 'width 4 group 4'

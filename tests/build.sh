@@ -154,9 +154,35 @@ disturbed() {
   local path=$1 fault=$2
   shift 2
   STATUS=0
-  strace -f -s 0 -o trace -P "$path" -e "trace=${fault%%:*}" -e "inject=$fault" \
+  "${AROUND[@]}" strace -f -s 0 -o trace -P "$path" -e "trace=${fault%%:*}" -e "inject=$fault" \
     "$RAIDZX" "$@" <"${INPUT:-/dev/null}" >found 2>told || STATUS=$?
   sed -i '/^strace: Requested path/d' told
+}
+AROUND=()
+
+# singly PATH WORD..: a run as it is, but that each call which reads several sectors ahead fails. That counts for no disk,
+# and each sector that is asked for is read by a call of its own: SINGLE holds, from its place 1 on, the numbers of those
+# on this file among all calls that read of it.
+SINGLY=(python3 -I -S "$ROOT/tests/singly.py")
+singly() {
+  local path=$1
+  shift
+  "${SINGLY[@]}" strace -f -s 0 -o trace -P "$path" -e trace=pread64 \
+    "$RAIDZX" "$@" <"${INPUT:-/dev/null}" >found 2>told || true
+  mapfile -t SINGLE < <(echo none && grep 'pread64(' trace | grep -n ', 512, ' | cut -d : -f 1)
+}
+# disturbed_singly PATH FAULT WORD..: such a run with a fault in calls that read a sector alone: `pread64:error=EIO:when=3`
+# is the third of them, as the last `singly` found them, and with `when=3+` each call from there on. Where there is no
+# such call the run is not made, and STATUS is `none`.
+disturbed_singly() {
+  local path=$1 fault=$2 when=${2##*when=} call
+  shift 2
+  call=${SINGLE[${when%+}]:-}
+  STATUS=none
+  [ -n "$call" ] || return 0
+  AROUND=("${SINGLY[@]}")
+  disturbed "$path" "${fault%when=*}when=${when/#${when%+}/$call}" "$@"
+  AROUND=()
 }
 
 # was NAME STATUS TEXT [LINE..]: how the disturbed run has ended, and what it has told.

@@ -69,6 +69,21 @@ lines_of() {
 }
 # is_paused NUMBER: what is told of a copy that is paused.
 is_paused() { echo "raidzx: the copy is paused, as disk $1 is out; all blocks are read as before"; }
+# reads_singly NUMBER CALL..: finds, for `disturbs`, each read of a single sector that these calls make on this image.
+reads_singly() {
+  local number=$1
+  shift
+  back few
+  calls "$@" >script
+  INPUT=script singly "disk$number" "${IMAGES[@]}" -- replay
+}
+# disturbs NUMBER FAULT: the script with this fault of this image.
+disturbs() {
+  local how=disturbed
+  [ "${2%%:*}" != pread64 ] || how=disturbed_singly
+  INPUT=script $how "disk$1" "$2" "${IMAGES[@]}" -- replay
+  [ "$STATUS" != none ] && grep -q INJECTED trace || failed "$2" 'no call was made to fail'
+}
 # fails NUMBER FAULT COUNT: this image fails this call. The copy makes so many groups then and is paused, or all four and
 # is done. All blocks are there in that run, and in the next one, which has the same answer.
 fails() {
@@ -76,8 +91,7 @@ fails() {
   [ "$count" != 4 ] || answer='done width 4' paused=()
   back few
   calls copy 'sum 1' 'sum 2' 'sum 3' sync >script
-  INPUT=script disturbed disk$number "$fault" "${IMAGES[@]}" -- replay
-  grep -q INJECTED trace || failed "$fault" 'no call was made to fail'
+  disturbs "$number" "$fault"
   was "disk$number with $fault" 0 "$(lines_of 7 "$count" "$answer")
 $((2 + count)) a.2 sum 1 at $((2 + count)) $first
 $((3 + count)) a.3 sum 2 at $((3 + count)) $second
@@ -96,49 +110,78 @@ $((6 + count)) a.5 sync group $((8 + count))" "raidzx: disk$number: 1 call faile
 calls copy 'sum 1' 'sum 2' 'sum 3' >on
 # Each call of each image, but for the last two, which make the sync's group: which of them are made before the copy's
 # first, second, third and fourth group is, and in all. The rings are read at the start (where a read that fails does not
-# matter, see below). An opening reads a ring of 32 slots and a page, writes an uberblock and syncs twice, and so does each commit, which writes a page too. The fill and the drain write 32 sectors
-# each; the last two jobs write 10 and 6, on the new image 9 and 7. The fill reads 43 or 42 of each old image, and none
-# of the new one; the drain reads 32 of each; the last two jobs read 13 and 8, or 9, of each old one. The sums follow.
+# matter, see below). An opening reads a ring of 32 slots and a page, writes an uberblock and syncs twice, and so does each
+# commit, which writes a page too. Of reads each one of a single sector fails, and those of several too. The fill reads 43
+# or 42 of each old image, and none of the new one; the drain reads 32 of each; the last two jobs read 13 and 8, or 9, of
+# each old one. The sums follow. The fill's 32 sectors are one write, with the page behind them, and so are the drain's,
+# and those of the last two jobs; the commit behind them hands them over.
 for row in '0 pread64 108 140 153 161 182' '1 pread64 108 140 153 161 180' '2 pread64 107 139 152 161 181' \
-  '3 pread64 65 97 97 97 117' '0 pwrite64 33 67 79 87 90' '1 pwrite64 33 67 79 87 90' '2 pwrite64 33 67 79 87 90' \
-  '3 pwrite64 33 67 78 87 90' '0 fdatasync 2 4 6 8 11' '1 fdatasync 2 4 6 8 11' '2 fdatasync 2 4 6 8 11' \
+  '3 pread64 65 97 97 97 117' '0 pwrite64 1 3 6 9 13' '1 pwrite64 1 3 6 9 13' '2 pwrite64 1 3 6 9 13' \
+  '3 pwrite64 1 3 6 9 13' '0 fdatasync 2 4 6 8 11' '1 fdatasync 2 4 6 8 11' '2 fdatasync 2 4 6 8 11' \
   '3 fdatasync 2 4 6 8 11'; do
   set -- $row
   first_call=1
-  [ "$2" != pread64 ] || first_call=33
+  if [ "$2" = pread64 ]; then
+    first_call=33
+    reads_singly "$1" copy 'sum 1' 'sum 2' 'sum 3' sync
+  fi
   for when in $(seq "$first_call" "$7"); do
     count=$(((when > $3) + (when > $4) + (when > $5) + (when > $6)))
     fails "$1" "$2:error=EIO:when=$when" $count
-    [ "$2" = pread64 ] || ((when % 10)) || fails "$1" "$2:error=ENOSPC:when=$when" $count
+    [ "$2" = fdatasync ] || [ "$2" = pread64 ] && ((when % 10)) || fails "$1" "$2:error=ENOSPC:when=$when" $count
   done
   printf 'ok each of the calls %s to %s %s of disk%s fails\n' "$first_call" "$7" "$2" "$1"
 done
 
 # A read that fails at the start changes nothing.
+reads_singly 1 copy 'sum 1'
 for when in 1 32; do
   back few
   calls copy 'sum 1' >script
-  INPUT=script disturbed disk1 pread64:error=EIO:when=$when "${IMAGES[@]}" -- replay
+  disturbs 1 "pread64:error=EIO:when=$when"
   was "disk1 with call $when of pread64" 0 "$(lines_of 7 4 'done width 4')
 6 a.2 sum 1 at 6 $first" 'raidzx: disk1: 1 call failed in this run'
 done
 echo 'ok a read that fails at the start changes nothing'
 
-# Without a sync behind it nothing has recorded that the image is out: the next run copies with it from where the last
-# group stands, and then any one image may go.
-for row in '0 pread64 92 0' '1 pwrite64 20 0' '3 pwrite64 30 0' '1 pwrite64 52 1' '3 pwrite64 40 1' '2 pwrite64 75 2' \
-  '3 pwrite64 75 2' '0 pwrite64 84 3' '3 pwrite64 84 3' '2 fdatasync 4 1' '0 fdatasync 8 3'; do
-  set -- $row
+# fails_last NUMBER FAULT COUNT [LINE]: this image fails this call of a run without a sync at its end.
+fails_last() {
+  local answer="paused $1" paused=("$(is_paused "$1")")
+  [ "$3" != 4 ] || answer='done width 4' paused=()
   back few
   calls copy 'sum 1' 'sum 2' 'sum 3' >script
-  INPUT=script disturbed disk$1 "$2:error=EIO:when=$3" "${IMAGES[@]}" -- replay
-  was "disk$1 with call $3 of $2" 0 "$(lines_of 7 "$4" "paused $1")
-$((2 + $4)) a.2 sum 1 at $((2 + $4)) $first
-$((3 + $4)) a.3 sum 2 at $((3 + $4)) $second
-$((4 + $4)) a.4 sum 3 at $((4 + $4)) $third" "raidzx: disk$1: 1 call failed in this run" "$(is_paused "$1")"
+  disturbs "$1" "$2"
+  was "disk$1 with $2" 0 "$(lines_of 7 "$3" "$answer")
+$((2 + $3)) a.2 sum 1 at $((2 + $3)) $first
+$((3 + $3)) a.3 sum 2 at $((3 + $3)) $second
+$((4 + $3)) a.4 sum 3 at $((4 + $3)) $third" "raidzx: disk$1: 1 call failed in this run" "${paused[@]}" ${4:+"$4"}
+}
+
+# Without a sync behind it nothing has recorded that the image is out, where a read, or the last write or sync of a commit
+# has failed: the next run copies with it from where the last group stands, and then any one image may go.
+reads_singly 0 copy 'sum 1' 'sum 2' 'sum 3'
+for row in '0 pread64 92 0' '1 pwrite64 1 0' '3 pwrite64 1 0' '1 pwrite64 3 1' '3 pwrite64 3 1' '2 pwrite64 6 2' \
+  '3 pwrite64 6 2' '0 pwrite64 9 3' '3 pwrite64 9 3' '2 fdatasync 4 1' '0 fdatasync 8 3'; do
+  set -- $row
+  fails_last "$1" "$2:error=EIO:when=$3" "$4"
   runs "disk$1 with call $3 of $2, and the next run goes on with it" 0 \
     "$(lines_of $((9 + $4)) $((4 - $4)) 'done width 4')" copy
   without_each 'what it has copied'
+done
+
+# What the fill, the drain and the last two jobs have written is handed over by the commit behind them. Where that fails,
+# that commit's group has recorded that the image is out: the next run goes on without it, and reads all.
+for row in '1 2 1' '3 2 1' '1 4 2' '3 4 2' '2 7 3' '3 7 3' '0 10 4' '3 10 4'; do
+  set -- $row
+  for error in EIO ENOSPC; do
+    fails_last "$1" "pwrite64:error=$error:when=$2" "$3" "raidzx: disk$1: out of the pool for good"
+    answer="paused $1"
+    [ "$3" != 4 ] || answer='done width 4'
+    runs "disk$1 with call $2 of pwrite64, and the next run goes on without it" 0 "$(lines_of $((9 + $3)) 0 "$answer")" copy
+    reads_wanted "disk$1 with call $2 of pwrite64"
+    rm "disk$1"
+    reads_wanted "disk$1 with call $2 of pwrite64, and without it"
+  done
 done
 
 # Two images fail in a commit of the copy: it is refused, and so is each later call. Once they are back all is there.

@@ -16,15 +16,19 @@ later='0 group 6 after 0
 calls 'get 7' >again
 
 # borne CALL ERROR LAST: each image fails this call at each number up to the last one, or moves nothing (0). The run
-# answers as if nothing were, and tells it; the next one reads what was synced.
+# answers as if nothing were, and tells it; the next one reads what was synced. Of reads, each one of a single sector
+# fails, and those of several too: a sector that is read ahead is asked for again alone, and only that counts.
 borne() {
-  local call=$1 error=$2 last=$3 number when out=0 times=0 told how=error=$2
+  local call=$1 error=$2 last=$3 number when out=0 times=0 told how=error=$2 disturbed=disturbed
   [ "$error" != 0 ] || how=retval=0
+  [ "$call" != pread64 ] || disturbed=disturbed_singly
   for ((number = 0; number < 3; number++)); do
+    back made
+    [ "$call" != pread64 ] || singly "disk$number" "${IMAGES[@]}" -- run
     for ((when = 1; when <= last; when++)); do
       back made
-      disturbed "disk$number" "$call:$how:when=$when" "${IMAGES[@]}" -- run
-      grep -q INJECTED trace || break
+      $disturbed "disk$number" "$call:$how:when=$when" "${IMAGES[@]}" -- run
+      [ "$STATUS" != none ] && grep -q INJECTED trace || break
       times=$((times + 1))
       told="raidzx: disk$number: 1 call failed in this run"
       if [ "$(wc -l <told)" = 2 ]; then
@@ -48,7 +52,9 @@ borne pwrite64 ENOSPC 4
 borne pread64 EIO 64 # the ring, as it is read at the start and by the opening
 for number in 0 1; do
   back made
-  disturbed "disk$number" pread64:error=EIO:when=65 "${IMAGES[@]}" -- run
+  singly "disk$number" "${IMAGES[@]}" -- run
+  back made
+  disturbed_singly "disk$number" pread64:error=EIO:when=65 "${IMAGES[@]}" -- run
   was "the block's sector on disk$number is not read" 0 "$whole" "raidzx: disk$number: 1 call failed in this run"
 done
 echo 'ok a block whose sector is not read is answered'
@@ -56,6 +62,20 @@ echo 'ok a block whose sector is not read is answered'
 # A call that moves nothing has failed.
 borne pwrite64 0 4
 borne pread64 0 64
+
+# A read of several sectors that fails, moves a part or nothing, or is interrupted, is nobody's fault: the sectors that are
+# asked for are read alone, and nothing is told. The second and the fourth call on each image are such ones, of the ring.
+for number in 0 1 2; do
+  for when in 2 4; do
+    for how in error=EIO error=ENOSPC error=EINTR retval=0 retval=100 retval=1024; do
+      back made
+      disturbed "disk$number" "pread64:$how:when=$when" "${IMAGES[@]}" -- run
+      grep INJECTED trace | grep -qv ', 512, ' || failed "a read ahead with $how" "$(cat trace)"
+      was "a read ahead of disk$number with $how" 0 "$whole"
+    done
+  done
+done
+echo 'ok a read ahead that fails is made again sector by sector, and is not told'
 
 # Calls that fail from one on, on two images: too many, and what was synced before is there once they are back.
 strace_two() { # CALL FIRST
@@ -76,9 +96,10 @@ found=$("$RAIDZX" "${IMAGES[@]}" -- run <again 2>told) || failed 'after too many
 [ "$(answers <<<"$found")" = 'get 7 bytes 616263' ] || failed 'after too many failures' "$found"
 echo 'ok two images fail at a sync: it is refused, and the next run reads what was synced before'
 
-# A create is refused with the first image that fails a call.
+# A create is refused with the first image that fails a call: the ring is one write, and the pool's uberblock the next.
 for number in 0 1 2; do
-  for fault in pwrite64:error=EIO:when=1 pwrite64:error=ENOSPC:when=32 fdatasync:error=EIO:when=1; do
+  for fault in pwrite64:error=EIO:when=1 pwrite64:error=ENOSPC:when=1 fdatasync:error=EIO:when=1 \
+    pwrite64:error=EIO:when=2 pwrite64:error=ENOSPC:when=2 fdatasync:error=EIO:when=2; do
     back made
     disturbed "disk$number" $fault "${IMAGES[@]}" -- create --parity 1 --width 3 --id 9
     was "a create with $fault on disk$number" 4 "too many failed $number" \
@@ -114,7 +135,10 @@ rest() { # NAME OFFSET: the call behind the injected one
 truncate -s 0 "${IMAGES[@]}"
 truncate -s 131072 "${IMAGES[@]}"
 "$RAIDZX" "${IMAGES[@]}" -- create --parity 1 --width 3 --id 9 >text
-disturbed disk1 pread64:retval=100:when=5 "${IMAGES[@]}" -- run
+keep zeros
+singly disk1 "${IMAGES[@]}" -- run
+back zeros
+disturbed_singly disk1 pread64:retval=100:when=5 "${IMAGES[@]}" -- run # of a sector that is read alone
 was 'a read of a part' 0 "$whole"
 rest 'a read of a part' $((4 * 512 + 100))
 calls "puthex 8 $(printf '%02048d' 0)" >script # on each image one sector of zeros
@@ -123,6 +147,76 @@ was 'a write of a part' 0 "$(printf '%s\n' '0 group 6 after 0' '1 a.1 put 8 ok')
 offset=$(sed -n 's/.*512, \([0-9]*\)) *= 100 (INJECTED)$/\1/p' trace)
 rest 'a write of a part' $((offset + 100))
 echo 'ok a call that moves a part is gone on with'
+
+# A write of several sectors: of each image the column of a block of 12 sectors, the second write that is made of it. It
+# fails whole, and its image is out; the next run has both blocks, also without that image.
+INPUT=script
+back synced
+calls "put 8 6144 5" sync 'sum 8' 'get 7' >script
+"$RAIDZX" "${IMAGES[@]}" -- run <script >row
+calls 'sum 8' 'get 7' >both
+answers <row >wanted
+for number in 0 1 2; do
+  for fault in error=EIO error=ENOSPC retval=0; do
+    back synced
+    disturbed "disk$number" "pwrite64:$fault:when=2" "${IMAGES[@]}" -- run
+    grep INJECTED trace | grep -qv ', 512, ' || failed "a write of a row with $fault" "$(cat trace)"
+    was "a write of a row on disk$number with $fault" 0 "$(cat row)" "raidzx: disk$number: 1 call failed in this run" \
+      "raidzx: disk$number: out of the pool for good"
+    "$RAIDZX" "${IMAGES[@]}" -- run <both 2>told | answers | cmp -s - wanted || failed 'then' "$(cat told)"
+    rm "disk$number"
+    "$RAIDZX" "${IMAGES[@]}" -- run <both 2>told | answers | cmp -s - wanted || failed 'then without it' "$(cat told)"
+  done
+  # Interrupted it is made again, and the images are those of a run that was not.
+  back synced
+  "$RAIDZX" "${IMAGES[@]}" -- run <script >/dev/null
+  keep undisturbed
+  back synced
+  disturbed "disk$number" pwrite64:error=EINTR:when=2..4 "${IMAGES[@]}" -- run
+  [ "$(grep -c INJECTED trace)" = 3 ] || failed 'a write of a row is interrupted' "$(cat trace)"
+  was "a write of a row on disk$number is interrupted" 0 "$(cat row)"
+  unchanged 'an interrupted write of a row' undisturbed >/dev/null
+done
+echo 'ok a write of a row that fails puts its image out, and loses nothing; interrupted it is made again'
+
+# It moves a part, in the midst of a sector, and is gone on with: images and block hold zeros, and so do the bytes that
+# such a call has not moved. At its end, within a run without a sync, it is handed over all the same.
+row_of() { sed -n 's/.*""..., \([0-9]*\), \([0-9]*\)) *= 1300 (INJECTED)$/\1 \2/p' trace; }
+for number in 0 1 2; do
+  for last in sync 'get 7'; do
+    back zeros
+    calls "puthex 8 $(printf '%012288d' 0)" "$last" >script
+    "$RAIDZX" "${IMAGES[@]}" -- run <script >row
+    keep undisturbed
+    back zeros
+    disturbed "disk$number" pwrite64:retval=1300:when=2 "${IMAGES[@]}" -- run
+    was "a write of a row on disk$number moves a part" 0 "$(cat row)"
+    read -r length offset < <(row_of)
+    grep -A 1 INJECTED trace | tail -n 1 | grep -q ", $((length - 1300)), $((offset + 1300))) *= $((length - 1300))" ||
+      failed 'a write of a row moves a part' "$(cat trace)"
+    unchanged 'a write of a row that moved a part' undisturbed >/dev/null
+  done
+done
+echo 'ok a write of a row that moves a part is gone on with'
+
+# It moves a part, and the rest fails: files may not grow behind the sector that is the last one of the row, which only the
+# first image has of this block.
+back synced
+calls 'put 8 5632 5' sync 'sum 8' 'get 7' >script
+"$RAIDZX" "${IMAGES[@]}" -- run <script >row
+answers <row >wanted
+keep undisturbed
+back synced
+STATUS=0
+(trap '' XFSZ && ulimit -f 99 && "$RAIDZX" "${IMAGES[@]}" -- run <script >found 2>told) || STATUS=$?
+was 'a part of a row is written' 0 "$(cat row)" 'raidzx: disk0: 1 call failed in this run' \
+  'raidzx: disk0: out of the pool for good'
+sectors disk0 193 5 | cmp -s - <(sectors undisturbed/disk0 193 5) || failed 'a part of a row is written' 'it is not'
+sectors disk0 198 1 | cmp -s - <(sectors synced/disk0 198 1) || failed 'a part of a row is written' 'all of it is'
+"$RAIDZX" "${IMAGES[@]}" -- run <both 2>told | answers | cmp -s - wanted || failed 'then' "$(cat told)"
+rm disk0
+"$RAIDZX" "${IMAGES[@]}" -- run <both 2>told | answers | cmp -s - wanted || failed 'then without it' "$(cat told)"
+echo 'ok a write of a row of which a part is written and the rest fails puts its image out, and loses nothing'
 
 # An image that can't be opened for a reason that is none of its disk's refuses the run, and is not touched.
 calls 'get 7' >script

@@ -143,13 +143,18 @@ if command -v strace >/dev/null && strace -o /dev/null true 2>/dev/null; then
     -e 's/^openat\(.*"(disk.)", O_RDONLY\|O_NOCTTY\|O_CLOEXEC\) = .*/open \1/' \
     -e 's/^(statx|newfstatat|stat)\(.*"(disk.)", .* = 0$/kind \2/' \
     -e 's/^lseek\(.*(disk.)>, 0, SEEK_END\) += [0-9]+$/measure \1/' \
-    -e 's/^pread64\(.*(disk.)>, ""..., 512, ([0-9]*)\) += 512$/read \1 \2/' \
+    -e 's/^pread64\(.*(disk.)>, ""..., ([0-9]+), ([0-9]*)\) += \2$/read \1 \3 \2/' \
     -e 's/^close\(.*(disk.)>\) += 0$/close \1/' -e '/disk/p' trace |
-    awk '$1 == "read" && $3 % 512 == 0 { $3 /= 512 } { print }' >found
+    awk '$1 == "read" && $3 % 512 + $4 % 512 == 0 { $3 /= 512; $4 /= 512 } { print }' >found
   {
     for number in 0 1 2; do printf "%s disk$number\n" kind open measure; done
-    for _ in 1 2 3 4; do # to see what each image shows, to choose, by the status itself, and whether they have changed
-      for number in 0 1 2; do printf "read disk$number %s\n" $(seq 0 31); done
+    # To see what each image shows, to choose, by the status itself, and whether they have changed: the ring's first
+    # sector, and what lies behind it. To choose takes this from what was just seen; the looks behind it read it again.
+    for look in seen chosen told again; do
+      for number in 0 1 2; do
+        echo "read disk$number 0 1"
+        [ $look = chosen ] || echo "read disk$number 1 64"
+      done
     done
     for number in 0 1 2; do echo "close disk$number"; done
   } >wanted

@@ -26,7 +26,7 @@ RING = 32 * SECTOR
 INDEX = range(64 * SECTOR, 192 * SECTOR)
 # Of what a stop may leave, so many are tried where it is one of many stops.
 TRIED = 3
-CALL = re.compile(r' (pwrite64|fdatasync)\(\d+<([^>]*)>(?:, "([^"]*)", 512, (\d+))?\) += \d+$')
+CALL = re.compile(r' (pwrite64|fdatasync)\(\d+<([^>]*)>(?:, "([^"]*)", \d+, (\d+))?\) += \d+$')
 ANSWER = re.compile(r'^\d+ a\.\d+ (get|sum) (\d+) at \d+ (.*)$')
 COPIED = re.compile(r'^(\d+) a\.1 copy done width (\d+)$')
 
@@ -50,7 +50,7 @@ def plain(text):
 
 
 def calls():
-    """The calls: a device, and of a write also its offset and its bytes."""
+    """The calls: a device, and of a write also the offset and the bytes of each of its sectors, one by one."""
     for line in (folder / 'trace').read_text().splitlines():
         if '+++ exited' in line:
             continue
@@ -62,7 +62,9 @@ def calls():
         if name == 'fdatasync':
             yield device, None, None
         else:
-            yield device, int(offset), plain(text)
+            row = plain(text)
+            for at in range(0, len(row), SECTOR):
+                yield device, int(offset) + at, row[at:at + SECTOR]
 
 
 def group_of(uberblock):

@@ -23,7 +23,7 @@ stops() {
   local name=$1 old=$2 every=$3 found
   shift 3
   keep start
-  strace -f -y -xx -s 512 -e trace=pwrite64,pwritev,pwritev2,fdatasync,fsync,sync_file_range,ftruncate,fallocate \
+  strace -f -y -xx -s 32768 -e trace=pwrite64,pwritev,pwritev2,fdatasync,fsync,sync_file_range,ftruncate,fallocate \
     -o trace "$RAIDZX" "${IMAGES[@]}" -- $COMMAND <script >text 2>told
   keep end
   rm -rf stop

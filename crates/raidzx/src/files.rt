@@ -1,11 +1,11 @@
 // Images as files.
-ghost use Rattle.std.specs.Prelude.{◌≡◌, ◌↔◌, ◌*◌, ◌/◌, ◌≤◌, min};
+ghost use Rattle.std.specs.Prelude.{◌≡◌, ◌↔◌, ◌*◌, ◌/◌, ◌≤◌, min, IfErr, IsOk};
 ghost use Rattle.std.specs.IoError.{error_kind};
 ghost use Rattle.std.specs.declared.io.ErrorKind.TheVariants as kind;
 ghost use Rattle.file_bank.specs.declared.block_file.ReadFault.TheVariants.{Interrupted};
 
 use bank_trait::Failed;
-use file_bank::{BlockFile, ReadFault, SECTOR_BYTES, count_call};
+use file_bank::{ReadFault, RowFile, SECTOR_BYTES, count_call};
 use raidzx_top::MOST_SECTORS;
 use std::fs::File;
 use std::io::{self, ErrorKind};
@@ -44,7 +44,7 @@ impl Image {
 
 /// A file that is there gives no clause of what it holds, so nothing is told of it: what these calls do is
 /// trusted, and all that is made of them is proved in `file_bank`.
-impl BlockFile for Image {
+impl RowFile for Image {
     ghost use Rattle.file_bank.specs.Lawful.{untold_lawful};
     ghost use Rattle.raidzx.specs.Images.{image_contents, image_faults, image_sectors};
 
@@ -71,14 +71,36 @@ impl BlockFile for Image {
         count_call(&mut self.faults, outcome)
     }
 
-    fn write_at(&mut self, _moment: u64, offset: u64, from: &[u8; 512]) -> Result<(), Failed> {
-        let outcome = self.file.write_all_at(from, offset);
-        count_call(&mut self.faults, outcome.map_err(|_| Failed))
+    /// A call that is interrupted or moves a part has failed too.
+    fn read_row(&mut self, offset: u64, into: &mut [[u8; 512]]) -> Result<(), Failed> {
+        let bytes = into.as_flattened_mut();
+        let wanted = bytes.len();
+        match self.file.read_at(bytes, offset) {
+            Ok(count) if count == wanted => Ok(()),
+            _ => Err(Failed),
+        }
+    }
+
+    /// A call that is interrupted or moves a part is gone on with.
+    fn write_row(&mut self, offset: u64, _moments: &[u64], row: &[[u8; 512]]) -> Result<(), usize> {
+        let outcome = self.file.write_all_at(row.as_flattened(), offset);
+        count_call(&mut self.faults, all_or_none(outcome))
     }
 
     fn sync(&mut self, _moment: u64) -> Result<(), Failed> {
         let outcome = self.file.sync_data();
         count_call(&mut self.faults, outcome.map_err(|_| Failed))
+    }
+}
+
+/// How many sectors came through before one failed cannot be known, so none is told: all of them stay kept above.
+fn all_or_none(outcome: io::Result<()>) -> Result<(), usize>
+    ensures ok { IsOk result ↔ IsOk outcome }
+    ensures none { IfErr result (λ count. count ≡ 0) }
+{
+    match outcome {
+        Ok(()) => Ok(()),
+        Err(_) => Err(0),
     }
 }
 

@@ -53,12 +53,15 @@ fn look_once<R: Threads + Wait + Sync>(
     mut bank: FileBank,
 ) -> Result<Look, AllocError> {
     let alloc = rt.alloc();
+    bank.forget_reads();
     let survey = look_around(alloc, &mut bank, true)?;
+    bank.forget_reads();
     let mut text = Output {
         inner: Vec::new(alloc),
         faults: 0,
     };
     let mut outcome = run_over(rt, threads, command, ServedCommand::Status, bank, &mut text)?;
+    outcome.bank.forget_reads();
     let after = see(alloc, &mut outcome.bank)?;
     let is_quiet = after.is_same(&survey.sightings);
     Ok(Look {

@@ -3,7 +3,7 @@
 
 ghost use Rattle.std.specs.Prelude.{◌≡◌, ◌+◌, ◌<◌, ◌≤◌, ◌^◌, length, IfOk};
 ghost use Rattle.file_bank.specs.FileBank.{disk_of};
-ghost use Rattle.raidzx.specs.Images.{image_contents};
+ghost use Rattle.raidzx.specs.Images.{device_contents};
 
 mod after;
 mod bank;
@@ -29,7 +29,7 @@ mod undone;
 mod usage;
 
 use after::tell_files;
-use bank::{FileBank, bank_over};
+use bank::{FileBank, bank_over, device_file};
 use bank_mem::MemBank;
 use bank_trait::{Bank, Sink};
 use entry::{look_first, tell_look};
@@ -70,6 +70,17 @@ impl<T: Drop> From<AllocFailed<T>> for NoBank {
     }
 }
 
+impl From<AllocError> for NoBank {
+    ghost use Rattle.raidzx.specs.declared.NoBank.TheVariants.{NoMemory};
+    ghost use Rattle.std.specs.Prelude.{◌≡◌};
+
+    ghost from_gives = { λ _ why. why ≡ NoMemory };
+
+    fn from(_: AllocError) -> NoBank {
+        NoBank::NoMemory
+    }
+}
+
 /// Images that were opened, and how many sectors each has: 0 where it could not be opened.
 #[derive(Drop)]
 struct Opened {
@@ -87,10 +98,10 @@ fn open_files(
     access: Access,
 ) -> Result<Opened, NoBank>
     requires { count + 1 < length words.now }
-    ensures devices { IfOk result (λ opened. (disk_of image_contents opened.bank).devices ≡ count) }
+    ensures devices { IfOk result (λ opened. (disk_of device_contents opened.bank).devices ≡ count) }
 {
     let alloc = rt.alloc();
-    let mut images = Vec::new(alloc);
+    let mut files = Vec::new(alloc);
     let mut faults = Vec::new(alloc);
     let mut lengths = Vec::new(alloc);
     for device in 0..count {
@@ -98,14 +109,14 @@ fn open_files(
         match open_image(rt, name, access) {
             Ok(image) => {
                 lengths.push(image.sectors())?;
-                images.push(Some(image))?;
+                files.push(Some(device_file(alloc, image)?))?;
             }
             Err(why) => {
                 note_unopened(rt, name, &why);
                 match why {
                     Unopened::Failed(_) => {
                         lengths.push(0)?;
-                        images.push(None)?;
+                        files.push(None)?;
                     }
                     _ => return Err(NoBank::Refused { device }),
                 }
@@ -114,7 +125,7 @@ fn open_files(
         faults.push(0)?;
     }
     Ok(Opened {
-        bank: bank_over(images, faults),
+        bank: bank_over(files, faults),
         lengths,
     })
 }
@@ -180,9 +191,11 @@ fn serve_files<R: Threads + Wait + Sync>(
     if let Err(status) = look_first(rt, alloc, names, command, served, &lengths, &mut bank) {
         return end(rt, status);
     }
-    let Ok(outcome) = run_over(rt, threads, command, served, bank, &mut output(rt)) else {
+    bank.forget_reads();
+    let Ok(mut outcome) = run_over(rt, threads, command, served, bank, &mut output(rt)) else {
         return end(rt, Status::NoMemory);
     };
+    outcome.bank.finish();
     let code = outcome.status.code();
     tell_files(rt, alloc, names, command, &lengths, outcome);
     ExitCode::from(code)

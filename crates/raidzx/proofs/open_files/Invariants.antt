@@ -3,6 +3,6 @@ use Rattle.raidzx.proofs.open_files.Given as goal
 
 abbrev pub invariant-loop-device : goal.invariant-loop-device
 invariant-loop-device l = record {
-  images : length l.images.items ≡ l.device;
+  files : length l.files.items ≡ l.device;
   faults : length l.faults.items ≡ l.device;
 }
