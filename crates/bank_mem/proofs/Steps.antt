@@ -14,6 +14,8 @@ use Rattle.bank_mem.specs.Record.{Shelf, content, Held, held_durably, put, hande
 use Rattle.bank_mem.specs.Spoiled.{Spoiled}
 use Rattle.bank_mem.specs.Sound.{LeadsTo}
 use Rattle.bank_mem.specs.MemBank.{view}
+use Rattle.bank_mem.specs.Laws.{in_list}
+use Rattle.bank_mem.proofs.ReadsCould.{reads_could}
 
 -- One more call is replayed after the others.
 pub replay-append : (calls : List Call) (held : Held) (call : Call)
@@ -56,6 +58,10 @@ read_at (Some c) b among = at among.0 among.1 among.2
     at : (k : ℕ) → k < 1 → get_or (c ∷ []) k b ≡ b → Some c ≡ Some b
     at zero below is = ap Some is
     at (suc k) below is = absurd (omega (arith, below))
+
+-- What a sector could hold it still could, once it was handed more.
+older : (bytes : List ℕ) (others : List (List ℕ)) (b : List ℕ) → Contains others b → Contains (bytes ∷ others) b
+older bytes others b among = (suc among.0, omega (arith, among.1), among.2)
 
 -- How a bank goes on with one more call on record.
 record GoesOn (held : Held) (call : Call) (old new : Disk) : Type 0 where
@@ -150,6 +156,11 @@ wrote sectors first now new calls later faults counts number d x bytes one_more 
           (sym (on.could_before d x))
           (newest bytes _ b (subst (λ (l : List (List ℕ)). Contains l b)
           (on.could_now d x ∙ handed-same before.could d x bytes) among));
+      handed = λ is. subst (λ (l : List (List ℕ)). Contains l bytes)
+          (sym (on.could_now d x ∙ handed-same before.could d x bytes)) (0, omega arith, refl);
+      still_could = λ b among. subst (λ (l : List (List ℕ)). Contains l b)
+          (sym (on.could_now d x ∙ handed-same before.could d x bytes))
+          (older bytes _ b (subst (λ (l : List (List ℕ)). Contains l b) (on.could_before d x) among));
       others_could = λ e y other.
           on.could_now e y ∙ handed-other before.could d x bytes e y other
           ∙ sym (on.could_before e y);
@@ -183,6 +194,10 @@ write_torn sectors first now calls later faults counts number d x bytes e one_mo
           (sym (on.could_before d x))
           (newest bytes _ b (subst (λ (l : List (List ℕ)). Contains l b)
           (on.could_now d x ∙ handed-same before.could d x bytes) among));
+      handed = tt;
+      still_could = λ b among. subst (λ (l : List (List ℕ)). Contains l b)
+          (sym (on.could_now d x ∙ handed-same before.could d x bytes))
+          (older bytes _ b (subst (λ (l : List (List ℕ)). Contains l b) (on.could_before d x) among));
       others_could = λ f y other.
           on.could_now f y ∙ handed-other before.could d x bytes f y other
           ∙ sym (on.could_before f y);
@@ -218,9 +233,13 @@ synced sectors first now calls later faults counts number d one_more more none l
       others_read = λ e x other. refl;
       others_leave = λ e x other.
           on.leaves_now e x ∙ stays_elsewhere e x other ∙ sym (on.leaves_before e x);
-      could = λ x b among. sym (leads d x)
+      could = λ x b among.
+          let is : content now d x ≡ Some b = sym (leads d x)
           ∙ read_at (before.reads d x) b (subst (λ (l : List (List ℕ)). Contains l b)
-          (on.could_now d x ∙ could_here x) among);
+          (on.could_now d x ∙ could_here x) among) in
+          (is, reads_could sectors first now calls faults leads d x b is);
+      kept = λ x b is among. subst (λ (l : List (List ℕ)). Contains l b) (sym (on.could_now d x ∙ could_here x))
+          (in_list (before.reads d x) b (leads d x ∙ is));
       still_could = tt;
       others_could = λ e x other.
           on.could_now e x ∙ could_elsewhere e x other ∙ sym (on.could_before e x);
@@ -352,6 +371,8 @@ write_failed sectors first now calls faults counts d x bytes e more rose once = 
   others_read = λ f y other. refl;
   others_leave = λ f y other. refl;
   could = λ b among. inr among;
+  handed = tt;
+  still_could = λ b among. among;
   others_could = λ f y other. refl;
 }
 

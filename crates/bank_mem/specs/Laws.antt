@@ -1,8 +1,9 @@
--- The law of a bank in memory: what is certain to stay is what is read, what is read is one of what
--- the sector could hold, and where bytes are certain it could hold no others.
+-- The laws of a bank in memory: what is certain to stay is what is read, what is read is one of what
+-- the sector could hold, and where bytes are certain it could hold no others. The second of them is not
+-- asked of every bank.
 use Rattle.std.specs.Prelude.{◌≡◌, ℕ, List, [], ◌∷◌, length, zero, suc, ◌<◌, take, Option, Some, None, Bool, true}
 use Rattle.std.specs.Prelude.{false, ◌&&◌, ◌==◌, if◌then◌else◌, refl, Contains, option_to_list}
-use Rattle.std.proofs.Common.{sym, ◌∙◌, subst, arith, get_or}
+use Rattle.std.proofs.Common.{sym, ◌∙◌, ap, arith, get_or}
 use Rattle.std.proofs.lemmas.List.{take_all}
 use Rattle.bank_trait.specs.Disk.{Lawful}
 use Rattle.bank_mem.specs.declared.record.Call.{Call}
@@ -11,7 +12,7 @@ use Rattle.bank_mem.specs.Record.{Shelf, content, Held, held_durably, after, rep
 use Rattle.bank_mem.specs.Sound.{LeadsTo}
 use Rattle.bank_mem.specs.MemBank.{view}
 
--- the three parts of the law, of what a record says
+-- the three laws, of what a record says
 pub record IsLawful (held : Held) : Type 0 where
   pub stays_read : (d x : ℕ) (bytes : List ℕ) → held.stays d x ≡ Some bytes
       → held.reads d x ≡ Some bytes
@@ -22,7 +23,7 @@ pub record IsLawful (held : Held) : Type 0 where
       → other ≡ bytes
 
 -- one value, or none, as a list
-in_list : (o : Option (List ℕ)) (bytes : List ℕ) → o ≡ Some bytes
+pub in_list : (o : Option (List ℕ)) (bytes : List ℕ) → o ≡ Some bytes
     → Contains (option_to_list o) bytes
 in_list None bytes is = absurd (cc)
 in_list (Some b) bytes is = (0, omega arith, cc)
@@ -168,18 +169,25 @@ rest_lawful first = record {
   stays_could = λ d x bytes other is has. of_list (content first d x) bytes other is has;
 }
 
+-- what the record says after all its calls
+abbrev pub at_last : Shelf → List Call → Held
+at_last first calls = replay (held_durably (content first)) (take (length calls) calls)
+
+pub last_lawful : (first : Shelf) (calls : List Call) → IsLawful (at_last first calls)
+last_lawful first calls =
+    replay_lawful (take (length calls) calls) (held_durably (content first)) (rest_lawful first)
+
+pub last_read : (first now : Shelf) (calls : List Call) → LeadsTo first calls now
+    → (d x : ℕ) → (at_last first calls).reads d x ≡ content now d x
+last_read first now calls leads d x =
+    ap (λ (l : List Call). (replay (held_durably (content first)) l).reads d x)
+    (take_all (length calls) calls (omega arith)) ∙ leads d x
+
 pub lawful : (sectors : ℕ) (first now : Shelf) (calls : List Call) (faults : List ℕ)
     → LeadsTo first calls now
     → Lawful (view sectors first now calls faults)
-lawful sectors first now calls faults leads =
-    let all : take (length calls) calls ≡ calls = take_all (length calls) calls (omega arith) in
-    let Reads : List Call → ℕ → ℕ → Option (List ℕ) =
-    λ (l : List Call). (replay (held_durably (content first)) l).reads in
-    let read : (d x : ℕ) → Reads (take (length calls) calls) d x ≡ content now d x =
-    λ d x. subst (λ (l : List Call). Reads l d x ≡ content now d x) (sym all) (leads d x) in
-    let law = replay_lawful (take (length calls) calls) (held_durably (content first)) (rest_lawful first) in
-    record {
-      stays_read = λ d x bytes is. sym (read d x) ∙ law.stays_read d x bytes is;
-      reads_could = λ d x bytes is. law.reads_could d x bytes (read d x ∙ is);
-      stays_could = law.stays_could;
-    }
+lawful sectors first now calls faults leads = record {
+  stays_read = λ d x bytes is.
+      sym (last_read first now calls leads d x) ∙ (last_lawful first calls).stays_read d x bytes is;
+  stays_could = (last_lawful first calls).stays_could;
+}

@@ -36,7 +36,7 @@ pub trait Bank {
         requires { device < (disk self.old).devices }
         ensures { Synced (disk self.old) (disk self.new) device result };
 
-    /// What is certain to stay is what is read, what is read is one of what the sector could hold,
-    /// and where the bytes are certain it could hold no others.
+    /// What is certain to stay is what is read, and where the bytes are certain the sector could hold
+    /// no others.
     ghost lawful: { (b : Self) → Lawful (disk b) };
 }

@@ -14,7 +14,7 @@ use Rattle.commit_job.specs.declared.call.CommitCall.TheVariants.{IndexWrite, Ba
 use Rattle.commit_job.specs.Stages.{device_of}
 use Rattle.core_state.specs.Keeps.{Kept}
 use Rattle.core_state.specs.Committing.{Point, page_part}
-use Rattle.core_state.proofs.Joining.{IsRingSettled, ReadsNoUber}
+use Rattle.core_state.specs.Rings.{IsRingSettled, ReadsNoUber}
 use Rattle.core_state.proofs.Laying.{IsPaged}
 use Rattle.core_state.proofs.Places.{page_place, slot_low}
 use Rattle.core_commit.proofs.Settled.{settled_by_sync}

@@ -10,7 +10,7 @@ use Rattle.core_state.specs.Keeps.{Kept, Setting}
 use Rattle.core_state.specs.Committing.{Point, point_of}
 use Rattle.core_state.specs.Moment.{IsRowOf, KeepsSince}
 use Rattle.core_state.proofs.Calls.{true_false}
-use Rattle.core_state.proofs.Joining.{ReadsNoUber}
+use Rattle.core_state.specs.Rings.{ReadsNoUber}
 use Rattle.core_state.proofs.Laying.{IsPaged}
 use Rattle.core_state.proofs.Places.{page_place}
 use Rattle.core_state.proofs.Since.{since_now}

@@ -44,6 +44,7 @@ frames_wider : (device device_sector : ℕ) (lost : ℕ → Bool) (old new : Dis
     → Frames (IsPlace device device_sector) lost old new
 frames_wider device device_sector lost old new frames = record {
   stays = λ d x bytes away is. frames.stays d x bytes (λ none. none) is;
+  held = λ d x bytes away is has. frames.held d x bytes (λ none. none) is has;
   could = λ d x bytes away has. frames.could d x bytes (λ none. none) has;
   reads = λ d x bytes away kept is. frames.reads d x bytes (λ none. none) kept is;
 }

@@ -4,13 +4,13 @@ use Rattle.std.specs.Prelude.{Contains}
 use Rattle.bank_trait.specs.declared.Failed.{Failed}
 use Rattle.bank_trait.specs.Disk.{Disk, Other, Synced, Unchanged, Wrote}
 use Rattle.core_state.specs.Certain.{able}
-use Rattle.core_state.proofs.Joining.{IsRingSettled}
+use Rattle.core_state.specs.Rings.{IsRingSettled}
 
 -- Law: A sync settles the ring of its device: it can hold nothing but what is read of it.
 pub settled_by_sync : (device : ℕ) (value : Unit {0}) (old new : Disk) → Synced old new device (Ok value)
     → IsRingSettled new device
 settled_by_sync device value old new synced = record {
-  only = λ slot bytes low could. synced.reads slot ∙ synced.could slot bytes could;
+  only = λ slot bytes low could. synced.reads slot ∙ (synced.could slot bytes could).0;
 }
 
 -- It stays settled where its slots could hold and read the same.

@@ -5,7 +5,7 @@ use Rattle.uberblock_ring.specs.Devices.{has_device}
 use Rattle.attach_ring.specs.Ring.{HasReadRing, RingRead}
 use Rattle.attach_ring.proofs.Rings.{free_shows_none}
 use Rattle.core_state.specs.Committing.{Point}
-use Rattle.core_state.proofs.Joining.{ReadsNoUber}
+use Rattle.core_state.specs.Rings.{ReadsNoUber}
 use Rattle.core_commit.specs.declared.commit_run.CommitStep.{CommitStep}
 use Rattle.core_commit.specs.declared.commit_run.CommitStep.TheVariants.{Called}
 use Rattle.core_commit.specs.CommitTurns.{CommitRun, CommitSteps}

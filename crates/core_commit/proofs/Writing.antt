@@ -125,7 +125,7 @@ synced_writes P {old = old} {new = new} {d = d} result lawful synced = record {
         → Contains (old.could old.clock e y) b
     now (Ok _) s e y b has = ⊎_elim
         (λ same. subst (λ k. Contains (old.could old.clock k y) b) (sym same)
-        (lawful.reads_could d y b (s.could y b (subst (λ k. Contains (new.could new.clock k y) b) same has))))
+        (s.could y b (subst (λ k. Contains (new.could new.clock k y) b) same has)).1)
         (λ ne. subst (λ (l : List (List ℕ)). Contains l b) (s.others_could e y ne) has) (cases_eq e d)
     now (Err _) s e y b has = ⊎_elim
         (λ same. subst (λ k. Contains (old.could old.clock k y) b) (sym same)

@@ -7,7 +7,7 @@ use Rattle.uberblock_ring.specs.Uberblock.{area_sector}
 use Rattle.core_state.specs.Keeps.{Kept, Setting}
 use Rattle.core_state.specs.Certain.{able}
 use Rattle.core_state.specs.Committing.{Point, page_part}
-use Rattle.core_state.proofs.Joining.{ReadsNoUber}
+use Rattle.core_state.specs.Rings.{ReadsNoUber}
 use Rattle.core_commit.specs.declared.commit_run.Stage.TheVariants.{Lays}
 use Rattle.core_commit.specs.CommitTurns.{IsCommitting}
 use Rattle.core_commit.specs.Widening.{IsWidenable, MayJoin}

@@ -8,7 +8,7 @@ use Rattle.commit_job.specs.Stages.{signing_of}
 use Rattle.core_state.specs.Shown.{read_devices}
 use Rattle.core_state.specs.Keeps.{Kept, Setting}
 use Rattle.core_state.specs.Committing.{Point, page_part}
-use Rattle.core_state.proofs.Joining.{IsRingSettled, ReadsNoUber}
+use Rattle.core_state.specs.Rings.{IsRingSettled, ReadsNoUber}
 use Rattle.core_commit.specs.declared.commit_run.Stage.TheVariants.{Signs}
 use Rattle.core_commit.specs.CommitTurns.{CommitRun}
 

@@ -13,7 +13,7 @@ use Rattle.core_state.specs.Shown.{Gives, IsCandidate, Shape, Shows}
 use Rattle.core_state.specs.Keeps.{HasWidthIn, IsKept, IsNotOutvoted, Keeps, Kept, MayVoteFor, Setting}
 use Rattle.core_state.specs.Collision.{HasNoOtherPage, MightStand}
 use Rattle.core_state.proofs.Places.{asks_device, right_widths}
-use Rattle.core_open.specs.Holds.{HoldsImage, shape_of}
+use Rattle.core_open.specs.Holds.{HoldsNoOther, shape_of}
 use Rattle.core_open.specs.Opening.{MayBegin}
 use Rattle.core_open.specs.Adding.{ExtendsBank, MayBeAdded, setting_on}
 
@@ -183,7 +183,7 @@ module _ (setting : Setting) (first : Kept) (later : List Kept) (old new : Disk)
       keeps = keeps_on;
       shape = refl;
       tells = added.tells;
-      pages = added.pages;
+      no_other = added.no_other;
       parity = may.may.parity;
     };
     excepted = may.excepted;
@@ -230,10 +230,9 @@ module _ (setting : Setting) (first : Kept) (later : List Kept) (old new : Disk)
   })
 
   -- Law: Devices that show no uberblock may be added to a bank that keeps groups.
-  pub blank_devices_may_be_added : Tells new
-      → ((image : Image) → HoldsImage new image → HasNoOtherPage (setting_on setting new) (first ∷ later) image)
+  pub blank_devices_may_be_added : Tells new → HoldsNoOther (setting_on setting new) (first ∷ later) new
       → MayBeAdded setting (first ∷ later) old new
-  blank_devices_may_be_added tells pages = record {
+  blank_devices_may_be_added tells no_other = record {
     begins = begins;
     pool = pool;
     blank = λ image device uber might outside shows pool_is. none image device uber might outside shows;
@@ -246,5 +245,5 @@ module _ (setting : Setting) (first : Kept) (later : List Kept) (old new : Disk)
         (λ k d within. voted_before image might (omega (arith, room, sectors)) other (get_or others k d)
         (named k d within));
     tells = tells;
-    pages = pages;
+    no_other = no_other;
   }

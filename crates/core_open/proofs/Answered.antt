@@ -26,7 +26,7 @@ use Rattle.core_state.specs.Index.{layout_of}
 use Rattle.core_state.specs.Whole.{Cell, IsCell}
 use Rattle.core_blocks.specs.declared.range.PutRange.{PutRange}
 use Rattle.core_blocks.specs.Blocks.{AreInStep, AreUnderWay, Blocks, IsListed, layout_run}
-use Rattle.core_blocks.specs.Growing.{grown_by}
+use Rattle.core_blocks.specs.Growing.{MayGrow, grown_by}
 use Rattle.core_blocks.specs.Kept.{NoneFree, SparesAll}
 use Rattle.core_blocks.specs.Puts.{IsRangeFor, layout_at}
 use Rattle.core_blocks.specs.Runs.{AreClear}
@@ -37,7 +37,7 @@ use Rattle.core_blocks.proofs.UnderWay.{answered_under as freed_under}
 use Rattle.core_client.specs.Pool.{IsInPool, IsRightBlock}
 use Rattle.core_open.specs.Pool.{HoldsMap, IsPool, IsTableOf, Pool, ReadsAs, state_of}
 use Rattle.core_open.specs.Answered.{IsNextGroup, answered_by, blocks_behind}
-use Rattle.core_open.proofs.Growing.{MayGrow, may_grow}
+use Rattle.core_open.proofs.Growing.{may_grow}
 use Rattle.core_open.proofs.Holding.{listed_in_pool}
 
 -- Blocks once a group is answered, where the width is the same or an expansion has ended.

@@ -13,22 +13,18 @@ use Rattle.uberblock_ring.specs.Valid.{AreAlike}
 use Rattle.core_state.specs.Shown.{Shape, Gives, IsCandidate}
 use Rattle.core_state.specs.Choosing.{IsChosen}
 use Rattle.core_state.specs.Keeps.{Keeps, Kept, Setting, Renews}
-use Rattle.core_state.specs.Collision.{HasNoOtherPage}
+use Rattle.core_state.specs.Collision.{HasNoOtherPage, MightStand}
 use Rattle.core_state.specs.Certain.{SlotOn, Knows}
 use Rattle.core_state.specs.Committing.{Point}
 use Rattle.core_state.proofs.Calls.{true_false}
 use Rattle.core_state.proofs.Frames.{Nowhere, none_lost, unchanged_frames}
 use Rattle.core_state.proofs.Keeping.{knows_keep}
-use Rattle.core_state.proofs.Knowing.{present, present_might, knows_frame, certain_frame}
+use Rattle.core_state.proofs.Knowing.{present, knows_frame, certain_frame}
 use Rattle.core_state.proofs.Places.{page_place, slot_low}
 use Rattle.core_state.proofs.Chosen.{chosen_pool, first_candidate, chosen_held, chosen_group, chosen_same}
 use Rattle.core_state.proofs.Chosen.{chosen_certain, twin_alike, chosen_next, chosen_page}
 use Rattle.core_commit.specs.Spread.{Spread, IsInUse, MaySpread}
-
--- What is read of a place that is told.
-pub told_bytes : (o : Option (List ℕ)) → IsSome o → (bytes : List ℕ) × (o ≡ Some bytes)
-told_bytes None told = absurd (true_false (sym told))
-told_bytes (Some bytes) told = (bytes, refl)
+use Rattle.core_open.proofs.Present.{told_bytes}
 
 -- What was read of the devices in use: which of them lack page or uberblock of the chosen group.
 pub record AreRead (shape : Shape) (silent : ℕ) (disk : Disk) (uber : Uber) (entries : List IndexEntry)
@@ -52,7 +48,8 @@ pub record AreRead (shape : Shape) (silent : ℕ) (disk : Disk) (uber : Uber) (e
       × (twin.group ≡ uber.group)
 
 module _ (setting : Setting) (first : Kept) (later : List Kept) (disk : Disk)
-    (knows : Knows setting first later disk) (lawful : Lawful disk) (silent : ℕ)
+    (knows : Knows setting first later disk) (lawful : Lawful disk)
+    (stands : MightStand setting.shape disk disk.clock (present disk)) (silent : ℕ)
     (within : (device : ℕ) → device < first.uber.reflow.to → has_device silent device ≡ true
     → has_device setting.failed device ≡ true)
     (no_other : HasNoOtherPage setting (first ∷ later) (present disk)) (device : ℕ) (uber : Uber)
@@ -62,13 +59,13 @@ module _ (setting : Setting) (first : Kept) (later : List Kept) (disk : Disk)
     (lack_page lack_uber : ℕ)
     (read : AreRead setting.shape silent disk uber entries lack_page lack_uber point) where
   keeps : Keeps setting first later (present disk)
-  keeps = knows_keep setting first later disk knows (present disk) (present_might setting.shape disk lawful)
+  keeps = knows_keep setting first later disk knows (present disk) stands
 
   abbrev kept : Kept
-  kept = (chosen_held setting first later disk knows lawful silent within no_other device uber entries chosen).0.kept
+  kept = (chosen_held setting first later disk knows stands silent within no_other device uber entries chosen).0.kept
 
   alike : AreAlike uber kept.uber
-  alike = (chosen_held setting first later disk knows lawful silent within no_other device uber entries chosen).0.alike
+  alike = (chosen_held setting first later disk knows stands silent within no_other device uber entries chosen).0.alike
 
   abbrev pub spread : Spread
   spread = record { setting = setting; first = first; later = later; kept = kept; map = kept.map }
@@ -95,7 +92,7 @@ module _ (setting : Setting) (first : Kept) (later : List Kept) (disk : Disk)
       record {
         uber = shown.0;
         right = shown.2.shows.valid.right;
-        alike = twin_alike setting first later disk knows lawful silent within no_other device uber entries chosen on
+        alike = twin_alike setting first later disk knows stands silent within no_other device uber entries chosen on
             shown.0 shown.1 shown.3 shown.2;
         shown = bytes.1 ∙ ap (λ (b : List ℕ). Some b)
             (sym (ap (λ o. unwrap_or o []) bytes.1)
@@ -110,7 +107,7 @@ module _ (setting : Setting) (first : Kept) (later : List Kept) (disk : Disk)
           → (first.uber.area ≢ uber.area) ⊎ (has_device setting.failed on ≡ true)
       near is works = ⊎_elim
           (λ same. absurd (read.lacks on in_use lacks
-          (chosen_page setting first later disk knows lawful silent within no_other device uber entries chosen on
+          (chosen_page setting first later disk knows stands silent within no_other device uber entries chosen on
           (below_first is on in_use) works same)))
           (λ apart. inl apart) (cases_eq first.uber.area uber.area)
 
@@ -121,14 +118,14 @@ module _ (setting : Setting) (first : Kept) (later : List Kept) (disk : Disk)
           (λ next. ⊎_elim
           (λ one. inl (λ area. one.1 (sym (ap (λ (u : Uber). u.area) alike) ∙ sym area)))
           (λ renews. near (inr renews) works) next)
-          (chosen_next setting first later disk knows lawful silent within no_other device uber entries chosen)
+          (chosen_next setting first later disk knows stands silent within no_other device uber entries chosen)
 
   spared_slot : (on : ℕ) → IsInUse uber point on → has_device lack_uber on ≡ true
       → (slot_of uber.group ≢ slot_of first.uber.group) ⊎ (has_device setting.failed on ≡ true)
   spared_slot on in_use lacks = by (has_device setting.failed on) refl
     where
       group : uber.group ≡ kept.uber.group
-      group = chosen_group setting first later disk knows lawful silent within no_other device uber entries chosen
+      group = chosen_group setting first later disk knows stands silent within no_other device uber entries chosen
 
       by : (b : Bool) → has_device setting.failed on ≡ b
           → (slot_of uber.group ≢ slot_of first.uber.group) ⊎ (has_device setting.failed on ≡ true)
@@ -144,18 +141,18 @@ module _ (setting : Setting) (first : Kept) (later : List Kept) (disk : Disk)
           (λ renews. let number : kept.uber.group ≡ first.uber.group + 2 = ap (λ (u : Uber). u.group) renews.alike in
           omega (arith, slot, number, group))
           next))
-          (chosen_next setting first later disk knows lawful silent within no_other device uber entries chosen)
+          (chosen_next setting first later disk knows stands silent within no_other device uber entries chosen)
 
   pub may_spread : MaySpread spread uber entries lack_page lack_uber point
   may_spread = record {
     knows = knows_frame Nowhere none_lost setting first later disk point.disk lawful (unchanged_frames same)
         (λ d x nowhere. absurd nowhere) knows;
-    listed = (chosen_held setting first later disk knows lawful silent within no_other device uber entries chosen).0.listed;
-    same = chosen_same setting first later disk knows lawful silent within no_other device uber entries chosen;
+    listed = (chosen_held setting first later disk knows stands silent within no_other device uber entries chosen).0.listed;
+    same = chosen_same setting first later disk knows stands silent within no_other device uber entries chosen;
     pool_is = chosen_pool setting first later (present disk) keeps silent within device uber entries chosen;
     known = certain_frame Nowhere none_lost setting disk point.disk (first ∷ later) uber (unchanged_frames same)
         (λ k d x bytes listed asks nowhere. absurd nowhere)
-        (chosen_certain setting first later disk knows lawful silent within no_other device uber entries chosen);
+        (chosen_certain setting first later disk knows stands silent within no_other device uber entries chosen);
     told = λ on x below in_use low.
         subst (λ o. IsSome o) (sym (same.reads on x)) (told on x (below, in_use) low);
     pages = λ on part in_use has low.

@@ -12,7 +12,7 @@ use Rattle.uberblock_ring.specs.Valid.{IsRightUber}
 use Rattle.core_state.specs.Shown.{Shape}
 use Rattle.core_state.specs.Choosing.{IsChosen}
 use Rattle.core_state.specs.Keeps.{Kept, Setting, IsKept, Renews}
-use Rattle.core_state.specs.Collision.{HasNoOtherPage}
+use Rattle.core_state.specs.Collision.{HasNoOtherPage, MightStand}
 use Rattle.core_state.specs.Certain.{Knows}
 use Rattle.core_state.specs.Committing.{Point}
 use Rattle.core_state.specs.Moment.{IsRowOf, KeepsSince}
@@ -27,19 +27,12 @@ use Rattle.core_open.specs.Causes.{IsChoiceWithout}
 use Rattle.core_open.specs.Holds.{HoldsImage, shape_of}
 use Rattle.core_open.specs.Opens.{IsSizedAsOne, MayOpen, IsWithinBelow, AddsOne, HasOpened, HasSpread, renewed_by}
 use Rattle.core_open.specs.Opens.{every_device}
-use Rattle.core_open.proofs.ChosenSpread.{AreRead, told_bytes, may_spread}
+use Rattle.core_open.proofs.ChosenSpread.{AreRead, may_spread}
+use Rattle.core_open.proofs.Present.{may_stand, present_held}
 use Rattle.core_open.proofs.Unchanged.{unchanged_keeps}
 use Rattle.core_open.proofs.Joining.{since_longer, certain_alone}
 use Rattle.core_open.proofs.Renewing.{IsSpread, Joins, find_number, joins_fresh, joins_listed, fresh, fresh_renews}
 use Rattle.core_open.proofs.Renewing.{may_renew, knows_next, next_same, next_listed, row_of_rest, parts}
-
--- A bank that tells what it holds holds what is read.
-pub present_held : (disk : Disk) → Tells disk → HoldsImage disk (present disk)
-present_held disk tells = record {
-  each = λ d x low below.
-      let bytes = told_bytes (disk.reads d x) (tells d x low below) in
-      bytes.1 ∙ ap (λ (b : List ℕ). Some b) (sym (ap (λ o. unwrap_or o []) bytes.1));
-}
 
 -- The mask of every device has each that is read: tried one by one.
 have_all : ℕ → Bool
@@ -70,11 +63,14 @@ module _ (setting : Setting) (first : Kept) (later : List Kept) (old : Disk)
     (read_of : AreRead (shape_of old) silent old uber entries lack_page lack_uber before)
     (right : IsRightUber uber)
     (within : IsWithinBelow first.uber.reflow.to silent setting.failed) where
+  stands : MightStand setting.shape old old.clock (present old)
+  stands = may_stand setting first later old may lawful
+
   knows : Knows setting first later old
-  knows = keeps_know setting first later old lawful may.keeps
+  knows = keeps_know setting first later old lawful stands may.keeps
 
   no_other : HasNoOtherPage setting (first ∷ later) (present old)
-  no_other = may.pages (present old) (present_held old may.tells)
+  no_other = may.no_other.pages (present old) (present_held old may.tells)
 
   chosen : IsChosen setting.shape silent (present old) device uber entries
   chosen = subst (λ (s : Shape). IsChosen s silent (present old) device uber entries) (sym may.shape) chosen_on
@@ -83,7 +79,7 @@ module _ (setting : Setting) (first : Kept) (later : List Kept) (old : Disk)
   read = subst (λ (s : Shape). AreRead s silent old uber entries lack_page lack_uber before) (sym may.shape) read_of
 
   abbrev held : (held : IsKept setting (present old) (first ∷ later) uber) × (entries ≡ held.kept.entries)
-  held = chosen_held setting first later old knows lawful silent within no_other device uber entries chosen
+  held = chosen_held setting first later old knows stands silent within no_other device uber entries chosen
 
   abbrev kept : Kept
   kept = held.0.kept
@@ -101,7 +97,7 @@ module _ (setting : Setting) (first : Kept) (later : List Kept) (old : Disk)
   group_spread_first = record { setting = setting; first = first; later = later; kept = kept; map = kept.map }
 
   may_first : MaySpread group_spread_first uber entries lack_page lack_uber before
-  may_first = may_spread setting first later old knows lawful silent within no_other device uber entries chosen
+  may_first = may_spread setting first later old knows lawful stands silent within no_other device uber entries chosen
       may.tells before same lack_page lack_uber read
 
   row_first : (joined : List Kept) → IsRowOf ((first ∷ later) ++ joined) first later
@@ -131,9 +127,9 @@ module _ (setting : Setting) (first : Kept) (later : List Kept) (old : Disk)
     is_spread : IsSpread setting first later kept uber entries mid
     is_spread = record {
       listed = held.0.listed;
-      near = chosen_next setting first later old knows lawful silent within no_other device uber entries chosen;
-      same = chosen_same setting first later old knows lawful silent within no_other device uber entries chosen;
-      sound = chosen_sound setting first later old knows lawful silent within no_other device uber entries chosen;
+      near = chosen_next setting first later old knows stands silent within no_other device uber entries chosen;
+      same = chosen_same setting first later old knows stands silent within no_other device uber entries chosen;
+      sound = chosen_sound setting first later old knows stands silent within no_other device uber entries chosen;
       right = right;
       parity_is = may.parity kept held.0.listed;
       stays = spread.keeps.stays group_spread_first may_first;
@@ -246,6 +242,6 @@ module _ (setting : Setting) (first : Kept) (later : List Kept) (old : Disk)
           choice = λ image holds. (
             (shown image holds).0,
             (shown image holds).1
-                ∙ chosen_group setting first later old knows lawful silent within no_other device uber entries chosen,
+                ∙ chosen_group setting first later old knows stands silent within no_other device uber entries chosen,
           );
         }

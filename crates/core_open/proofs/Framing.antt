@@ -21,6 +21,7 @@ use Rattle.core_state.specs.Choosing.{Names}
 use Rattle.core_state.specs.Whole.{Cell, IsCellOf, known_of}
 use Rattle.core_state.specs.Keeps.{Kept, Setting, Keeps, IsKept, MayVoteFor, ShowsGroup}
 use Rattle.core_state.specs.Collision.{HasNoOtherPage}
+use Rattle.core_state.proofs.Knowing.{vote_moves}
 use Rattle.core_state.proofs.Listed.{contains_head}
 use Rattle.core_state.proofs.Reader.{shown_alike}
 use Rattle.core_open.specs.Stopped.{SameOn, IsImageOf}
@@ -191,17 +192,9 @@ module _ (setting : Setting) (first : Kept) (later : List Kept) (one other : Ima
   }
 
   votes_back : (pool device : ℕ) → MayVoteFor setting other pool device → MayVoteFor setting one pool device
-  votes_back pool device (inl out) = inl (record {
-    outside = out.outside;
-    names = names_on setting.shape 0 other one pool device (same_back same) out.names;
-  })
-  votes_back pool device (inr gone) = inr (record {
-    within = gone.within;
-    failed = gone.failed;
-    uber = gone.uber;
-    shows = shows_on setting.shape other one device gone.uber (same_back same) gone.shows;
-    pool_is = gone.pool_is;
-  })
+  votes_back pool device = vote_moves setting other one pool device
+      (λ uber pool_is shows. shows_on setting.shape other one device uber (same_back same) shows)
+      (λ uber outside shows. shows_on setting.shape one other device uber same shows)
 
   pub keeps_same : Keeps setting first later other
   keeps_same = record {

@@ -2,13 +2,12 @@
 use Rattle.std.proofs.Common.{◌≡◌, ℕ, ◌++◌, List, [], ◌∷◌, Some, refl, sym, ◌∙◌, subst, arith}
 use Rattle.std.specs.Prelude.{Contains}
 use Rattle.std.proofs.lemmas.List.Elements.{Contains-append_left, Contains-append_right}
-use Rattle.bank_trait.specs.Disk.{Image, Disk}
+use Rattle.bank_trait.specs.Disk.{Disk}
 use Rattle.bank_trait.specs.Regions.{Tells}
 use Rattle.reconstruct.specs.Lost.{AreBytes}
 use Rattle.core_state.specs.Keeps.{HaveParity, Kept, Setting}
-use Rattle.core_state.specs.Collision.{HasNoOtherPage}
 use Rattle.core_state.specs.Moment.{KeepsRow}
-use Rattle.core_open.specs.Holds.{HoldsImage, shape_of}
+use Rattle.core_open.specs.Holds.{HoldsNoOther, shape_of}
 use Rattle.core_open.specs.Opening.{MayBegin}
 
 -- A bank whose images keep a row of some groups now may be opened with that row: it tells what it holds, and
@@ -16,7 +15,7 @@ use Rattle.core_open.specs.Opening.{MayBegin}
 module _ (setting : Setting) (groups : List Kept) (parity : ℕ) (disk : Disk)
     (kept : KeepsRow setting groups disk disk.clock)
     (shape : setting.shape ≡ shape_of disk) (excepted : setting.excepted ≡ []) (tells : Tells disk)
-    (pages : (image : Image) → HoldsImage disk image → HasNoOtherPage setting groups image)
+    (no_other : HoldsNoOther setting groups disk)
     (parities : HaveParity parity groups)
     (bytes : (group : Kept) (id : ℕ) (content : List ℕ) → Contains groups group
     → group.map id ≡ Some content → AreBytes content) where
@@ -31,9 +30,13 @@ module _ (setting : Setting) (groups : List Kept) (parity : ℕ) (disk : Disk)
       keeps = kept.keeps;
       shape = shape;
       tells = tells;
-      pages = λ image holds. record {
-        page = λ group shower giver uber listed shows inside pool_is number digest.
-            (pages image holds).page group shower giver uber (among group listed) shows inside pool_is number digest;
+      no_other = record {
+        ubers = no_other.ubers;
+        pages = λ image holds. record {
+          page = λ group shower giver uber listed shows inside pool_is number digest.
+              (no_other.pages image holds).page group shower giver uber (among group listed) shows inside pool_is number
+              digest;
+        };
       };
       parity = λ group listed. parities group (among group listed)
           ∙ sym (parities kept.first (among kept.first (0, omega arith, refl)));

@@ -6,18 +6,9 @@ use Rattle.width_map.specs.Births.{last_width}
 use Rattle.width_map.proofs.Growing.{has_room}
 use Rattle.block_record.specs.declared.entry.IndexEntry.{IndexEntry}
 use Rattle.uberblock_ring.specs.Valid.{IsRightUber}
-use Rattle.core_blocks.specs.Blocks.{Blocks, IsListed}
+use Rattle.core_blocks.specs.Growing.{MayGrow}
 use Rattle.shadow_write.specs.Band.{IsWidening}
 use Rattle.core_open.specs.Pool.{IsPool, Pool, open_group}
-
--- What `grow` asks of blocks, for this group and so many sectors.
-pub record MayGrow (blocks : Blocks) (group capacity : ℕ) : Type 0 where
-  pub room : length blocks.births < 16
-  pub wide : blocks.parity ≤ last_width blocks.births
-  pub narrow : last_width blocks.births < 16
-  pub larger : blocks.space.capacity ≤ capacity
-  pub small : capacity ≤ 2 ^ 54
-  pub born : (entry : IndexEntry) → IsListed blocks.table.entries entry → entry.birth < group + 2
 
 pub may_grow : (pool : Pool) → IsPool pool → IsWidening pool.uber.reflow
     → MayGrow pool.blocks (open_group pool) (pool.uber.reflow.rows * pool.uber.reflow.to)

@@ -13,6 +13,7 @@ pub mod Concluded
 pub mod PageReading
 pub mod ReadTo
 pub mod Rings
+pub mod Present
 pub mod ChosenSpread
 pub mod Renewing
 pub mod Settled
@@ -46,4 +47,3 @@ pub mod Growing
 pub mod Answered
 pub mod GoingOn
 pub mod Adding
-pub mod SameBirths

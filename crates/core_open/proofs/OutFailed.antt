@@ -6,11 +6,12 @@ use Rattle.uberblock_ring.specs.Devices.{has_device}
 use Rattle.core_state.specs.Shown.{Shape}
 use Rattle.core_state.specs.Choosing.{IsChosen, IsOutAtOpening}
 use Rattle.core_state.specs.Keeps.{Kept, Setting}
-use Rattle.core_state.proofs.Knowing.{present, present_might}
+use Rattle.core_state.proofs.Knowing.{present}
 use Rattle.core_state.proofs.OutAtOpening.{out_has_failed}
 use Rattle.core_open.specs.Causes.{AreOutFor, IsChoiceWithout}
 use Rattle.core_open.specs.Holds.{shape_of}
 use Rattle.core_open.specs.Opens.{IsWithinBelow, MayOpen}
+use Rattle.core_open.proofs.Present.{may_stand}
 
 module _ (setting : Setting) (first : Kept) (later : List Kept) (old : Disk)
     (may : MayOpen setting first later old) (lawful : Lawful old) (silent : ℕ)
@@ -20,7 +21,7 @@ module _ (setting : Setting) (first : Kept) (later : List Kept) (old : Disk)
       → IsOutAtOpening (shape_of old) silent (present old) choice.uber device
       → has_device setting.failed device ≡ true
   out_failed device below out = out_has_failed setting first later (present old)
-      (may.keeps (present old) (present_might setting.shape old lawful)) silent within
+      (may.keeps (present old) (may_stand setting first later old may lawful)) silent within
       choice.device choice.uber choice.entries
       (subst (λ (s : Shape). IsChosen s silent (present old) choice.device choice.uber choice.entries)
       (sym may.shape) choice.chosen)

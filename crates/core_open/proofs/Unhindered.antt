@@ -10,6 +10,7 @@ use Rattle.uberblock_ring.proofs.DeviceSets.{bit_has}
 use Rattle.core_state.specs.Shown.{Shape}
 use Rattle.core_state.specs.Choosing.{IsChosen, IsNotPool, IsOutAtOpening}
 use Rattle.core_state.specs.Keeps.{Kept, Setting, Keeps}
+use Rattle.core_state.specs.Collision.{MightStand}
 use Rattle.core_state.specs.Certain.{Knows}
 use Rattle.core_state.proofs.Calls.{true_false}
 use Rattle.core_state.proofs.Chosen.{chosen_held, chosen_group}
@@ -27,7 +28,7 @@ use Rattle.core_open.specs.Finding.{IsFindCause}
 use Rattle.core_open.specs.Holds.{HoldsImage, shape_of}
 use Rattle.core_open.specs.Looking.{IsLookForMemory}
 use Rattle.core_open.specs.Opens.{IsInSight, IsForMemory}
-use Rattle.core_open.proofs.Ends.{present_held}
+use Rattle.core_open.proofs.Present.{may_stand, present_held}
 use Rattle.core_open.proofs.Written.{none_listed}
 
 -- A set without devices is empty.
@@ -56,11 +57,14 @@ module _ (setting : Setting) (first : Kept) (later : List Kept) (old new : Disk)
   holds : HoldsImage old image
   holds = present_held old free.may.tells
 
+  stands : MightStand setting.shape old old.clock image
+  stands = may_stand setting first later old free.may lawful
+
   knows : Knows setting first later old
-  knows = keeps_know setting first later old lawful free.may.keeps
+  knows = keeps_know setting first later old lawful stands free.may.keeps
 
   keeps : Keeps setting first later image
-  keeps = knows_keep setting first later old knows image (present_might setting.shape old lawful)
+  keeps = knows_keep setting first later old knows image stands
 
   none_failed : (devices : ℕ) → HaveFailed old new devices → (device : ℕ) → has_device devices device ≡ true → ⊥
   none_failed devices failed device has = free.works device (failed device has).1
@@ -82,10 +86,10 @@ module _ (setting : Setting) (first : Kept) (later : List Kept) (old new : Disk)
       let within : (device : ℕ) → device < first.uber.reflow.to → has_device shown.silent device ≡ true
       → has_device setting.failed device ≡ true =
       λ device below gone. absurd (none_failed shown.silent shown.failed device gone) in
-      let held = (chosen_held setting first later old knows lawful shown.silent within (free.may.pages image holds)
+      let held = (chosen_held setting first later old knows stands shown.silent within (free.may.no_other.pages image holds)
       choice.device choice.uber choice.entries chosen).0 in
       let group : choice.uber.group ≡ held.kept.uber.group =
-      chosen_group setting first later old knows lawful shown.silent within (free.may.pages image holds)
+      chosen_group setting first later old knows stands shown.silent within (free.may.no_other.pages image holds)
       choice.device choice.uber choice.entries chosen in
       let limit = limits held.kept held.listed in
       omega (arith, high, group, limit)

@@ -33,7 +33,8 @@ use Rattle.core_open.specs.Writes.{IsRenewal, renewed_by}
 use Rattle.core_commit.proofs.Writing.{writes_none}
 use Rattle.core_open.proofs.InOrder.{in_order, renewed_in_order}
 use Rattle.core_open.proofs.Others.{found_touches}
-use Rattle.core_open.proofs.Ends.{present_held, sized_as_chosen, since_spread, since_renewed, opened_next}
+use Rattle.core_open.proofs.Present.{present_held}
+use Rattle.core_open.proofs.Ends.{sized_as_chosen, since_spread, since_renewed, opened_next}
 use Rattle.uberblock_ring.proofs.DeviceSets.{count_within}
 use Rattle.core_open.proofs.Unchanged.{unchanged_then, holds_then}
 

@@ -5,8 +5,8 @@ use Rattle.bank_trait.specs.Regions.{Tells}
 use Rattle.uberblock_ring.specs.Uberblock.{Uber}
 use Rattle.core_state.specs.Shown.{Shows}
 use Rattle.core_state.specs.Keeps.{Kept, Setting, IsNotOutvoted}
-use Rattle.core_state.specs.Collision.{HasNoOtherPage, MightStand}
-use Rattle.core_open.specs.Holds.{HoldsImage, shape_of}
+use Rattle.core_state.specs.Collision.{MightStand}
+use Rattle.core_open.specs.Holds.{HoldsNoOther, shape_of}
 
 -- The bank has these devices, as many sectors of each or more, and maybe further devices. What a crash leaves for
 -- certain on them it leaves here too, and no sector of theirs could hold anything else.
@@ -25,7 +25,7 @@ abbrev pub setting_on : Setting → Disk → Setting
 setting_on setting disk = record setting { shape = shape_of disk }
 
 -- Its further devices show no uberblock of the pool, and with them too the devices that are left of this pool outvote
--- each other one. It tells what it holds, and no page in that is another's by chance.
+-- each other one. It tells what it holds, and no uberblock or page in that is another's by chance.
 pub record MayBeAdded (setting : Setting) (groups : List Kept) (old new : Disk) : Type 0 where
   pub begins : ExtendsBank old new
   pub pool : setting.reach ≤ old.devices
@@ -34,4 +34,4 @@ pub record MayBeAdded (setting : Setting) (groups : List Kept) (old new : Disk) 
   pub votes : (image : Image) → MightStand (shape_of new) new new.clock image
       → IsNotOutvoted (setting_on setting new) image
   pub tells : Tells new
-  pub pages : (image : Image) → HoldsImage new image → HasNoOtherPage (setting_on setting new) groups image
+  pub no_other : HoldsNoOther (setting_on setting new) groups new

@@ -11,7 +11,7 @@ use Rattle.uberblock_ring.specs.Valid.{AreAlike}
 use Rattle.core_state.specs.Shown.{Shape}
 use Rattle.core_state.specs.Choosing.{IsChosen, IsOutAtOpening}
 use Rattle.core_state.specs.Keeps.{HaveParity, Kept, Setting, Renews}
-use Rattle.core_state.specs.Collision.{BankKeeps, HasNoOtherPage}
+use Rattle.core_state.specs.Collision.{BankKeeps}
 use Rattle.core_state.specs.Certain.{IsCertain, Knows}
 use Rattle.core_state.specs.Committing.{Point}
 use Rattle.core_state.specs.Moment.{KeepsSince}
@@ -23,19 +23,18 @@ use Rattle.core_open.specs.declared.why.OpenWhy.{OpenWhy}
 use Rattle.core_open.specs.declared.why.OpenWhy.TheVariants as reason
 use Rattle.core_open.specs.Causes.{AreOutIn, IsChoiceWithout, IsShownChoice}
 use Rattle.core_open.specs.Failing.{HaveFailed}
-use Rattle.core_open.specs.Holds.{HoldsImage, shape_of}
+use Rattle.core_open.specs.Holds.{HoldsImage, HoldsNoOther, shape_of}
 use Rattle.core_open.specs.Lacking.{HasAllBut}
 use Rattle.core_open.specs.Regions.{IsOnBelow}
 pub use Rattle.core_open.specs.Writes.{every_device, renewed_by, WritesInOrder}
 
 -- Each image that a crash may leave keeps these groups, all of one parity; the bank tells what it holds,
--- and no page in that is another's by chance.
+-- and no uberblock or page in that is another's by chance.
 pub record MayOpen (setting : Setting) (first : Kept) (later : List Kept) (disk : Disk) : Type 0 where
   pub keeps : BankKeeps setting first later disk
   pub shape : setting.shape ≡ shape_of disk
   pub tells : Tells disk
-  pub pages : (image : Image) → HoldsImage disk image
-      → HasNoOtherPage setting (first ∷ later) image
+  pub no_other : HoldsNoOther setting (first ∷ later) disk
   pub parity : HaveParity first.uber.parity (first ∷ later)
 
 -- At most one group joins these, which renews one of them.

@@ -3,7 +3,7 @@
 use Rattle.std.proofs.Common.{◌≡◌, ◌⊎◌, inl, inr, ⊎_elim, ℕ, ◌<◌, ◌≤◌, List, ◌∷◌, true, false, refl, sym, ◌∙◌, ap}
 use Rattle.std.proofs.Common.{subst, arith}
 use Rattle.sha2.specs.Sha256.{sha256}
-use Rattle.bank_trait.specs.Disk.{Image, Disk, Lawful}
+use Rattle.bank_trait.specs.Disk.{Image, Disk}
 use Rattle.block_record.specs.declared.entry.IndexEntry.{IndexEntry}
 use Rattle.block_record.specs.Page.{index_page}
 use Rattle.block_record.proofs.Pages.{page_same}
@@ -14,11 +14,11 @@ use Rattle.core_state.specs.Index.{IsFitting}
 use Rattle.core_state.specs.Shown.{Shape, Gives, IsCandidate, page_on}
 use Rattle.core_state.specs.Choosing.{IsChosen}
 use Rattle.core_state.specs.Keeps.{Kept, Setting, Keeps, IsKept, IsNextOf, SameGroup}
-use Rattle.core_state.specs.Collision.{HasNoOtherPage}
+use Rattle.core_state.specs.Collision.{HasNoOtherPage, MightStand}
 use Rattle.core_state.specs.Certain.{IsSound, IsAble, IsCertain, Knows}
 use Rattle.core_state.proofs.Fresh.{none_in}
 use Rattle.core_state.proofs.Keeping.{knows_keep, fitting_alike}
-use Rattle.core_state.proofs.Knowing.{present, present_might}
+use Rattle.core_state.proofs.Knowing.{present}
 use Rattle.core_state.proofs.Reader.{candidate_kept, same_group, shown_alike}
 use Rattle.core_state.proofs.Listed.{contains_head, contains_cases}
 use Rattle.core_state.proofs.PoolChosen.{pool_chosen, reads_left}
@@ -87,7 +87,7 @@ module _ (setting : Setting) (first : Kept) (later : List Kept) (image : Image)
       (reads_left setting first later image keeps silent within device below works) candidate.2)
 
 module _ (setting : Setting) (first : Kept) (later : List Kept) (disk : Disk)
-    (knows : Knows setting first later disk) (lawful : Lawful disk) (silent : ℕ)
+    (knows : Knows setting first later disk) (stands : MightStand setting.shape disk disk.clock (present disk)) (silent : ℕ)
     (within : (device : ℕ) → device < first.uber.reflow.to → has_device silent device ≡ true
     → has_device setting.failed device ≡ true)
     (pages : HasNoOtherPage setting (first ∷ later) (present disk)) (device : ℕ) (uber : Uber)
@@ -97,7 +97,7 @@ module _ (setting : Setting) (first : Kept) (later : List Kept) (disk : Disk)
   image = present disk
 
   keeps : Keeps setting first later image
-  keeps = knows_keep setting first later disk knows image (present_might setting.shape disk lawful)
+  keeps = knows_keep setting first later disk knows image stands
 
   pool_is : uber.pool ≡ setting.pool
   pool_is = chosen_pool setting first later image keeps silent within device uber entries chosen
@@ -164,7 +164,7 @@ module _ (setting : Setting) (first : Kept) (later : List Kept) (disk : Disk)
     device_in = chosen.candidate.shows.device_in;
     slot_in = chosen.candidate.shows.slot_in;
     right = chosen.candidate.shows.valid.right;
-    could = (present_might setting.shape disk lawful).written.ring device uber chosen.candidate.shows;
+    could = stands.written.ring device uber chosen.candidate.shows;
   }
 
   pub chosen_certain : IsCertain setting disk (first ∷ later) uber

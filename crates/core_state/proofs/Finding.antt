@@ -24,7 +24,8 @@ use Rattle.core_state.proofs.Reader.{same_group, shown_alike}
 use Rattle.core_state.proofs.Listed.{contains_head}
 use Rattle.core_state.proofs.Places.{asks_sector, right_widths, IsDataSector}
 use Rattle.core_state.proofs.Keeping.{fitting_alike}
-use Rattle.core_state.proofs.Knowing.{present, present_might, shows_same, encoded_some}
+use Rattle.core_state.proofs.Knowing.{present, shows_same, encoded_some}
+use Rattle.core_state.proofs.Showing.{completed, completed_might, shown_votes}
 use Rattle.core_state.proofs.Widths.{first_width}
 
 no_both : (o : Option (List ℕ)) (b : List ℕ) → o ≡ None → o ≡ Some b → ⊥
@@ -212,10 +213,8 @@ asks_of kept uber e x bytes alike asks =
     )
 
 module _ (setting : Setting) (first : Kept) (later : List Kept) (disk : Disk)
-    (lawful : Lawful disk) (keeps : BankKeeps setting first later disk) where
-  here : MightStand setting.shape disk disk.clock (present disk)
-  here = present_might setting.shape disk lawful
-
+    (lawful : Lawful disk) (here : MightStand setting.shape disk disk.clock (present disk))
+    (keeps : BankKeeps setting first later disk) where
   kept_here : Keeps setting first later (present disk)
   kept_here = keeps (present disk) here
 
@@ -458,5 +457,7 @@ module _ (setting : Setting) (first : Kept) (later : List Kept) (disk : Disk)
     pages = page_from;
     only = certain_from;
     own = own_from;
-    votes = λ image might. (keeps image might).votes;
+    votes = λ image might. shown_votes setting disk lawful here image might
+        (keeps (completed setting disk lawful here image might)
+        (completed_might setting disk lawful here image might)).votes;
   }

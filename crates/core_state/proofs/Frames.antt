@@ -9,11 +9,14 @@ use Rattle.bank_trait.specs.Disk.{Disk, Other, Unchanged, Wrote, Synced, Lawful}
 use Rattle.core_state.specs.Certain.{certain, able}
 use Rattle.core_state.specs.Committing.{lost_by}
 
--- Outside the places `here`: what was certain is, nothing more could stand there, and, on devices that
--- the call didn't lose, the same is read.
+-- Outside the places `here`: what was certain is, and could stand there still if it could before, nothing more could
+-- stand there, and, on devices that the call didn't lose, the same is read.
 pub record Frames (here : ℕ → ℕ → Type 0) (lost : ℕ → Bool) (old new : Disk) : Type 0 where
   pub stays : (d x : ℕ) (bytes : List ℕ) → (here d x → ⊥) → certain old d x ≡ Some bytes
       → certain new d x ≡ Some bytes
+  pub held : (d x : ℕ) (bytes : List ℕ) → (here d x → ⊥) → certain old d x ≡ Some bytes
+      → Contains (able old d x) bytes
+      → Contains (able new d x) bytes
   pub could : (d x : ℕ) (bytes : List ℕ) → (here d x → ⊥) → Contains (able new d x) bytes
       → Contains (able old d x) bytes
   pub reads : (d x : ℕ) (bytes : List ℕ) → (here d x → ⊥) → lost d ≡ false
@@ -40,6 +43,8 @@ pub wrote_frames : {old new : Disk} {d x : ℕ} {bytes : List ℕ} {result : Res
     → Frames (IsPlace d x) none_lost old new
 wrote_frames {d = d} {x = x} wrote = record {
   stays = λ e y b away is. wrote.others_leave e y (other_place d x e y away) ∙ is;
+  held = λ e y b away is has. subst (λ (l : List (List ℕ)). Contains l b)
+      (sym (wrote.others_could e y (other_place d x e y away))) has;
   could = λ e y b away is.
       subst (λ (l : List (List ℕ)). Contains l b) (wrote.others_could e y (other_place d x e y away)) is;
   reads = λ e y b away kept is. wrote.others_read e y (other_place d x e y away) ∙ is;
@@ -57,9 +62,15 @@ synced_frames {old = old} {new = new} {d = d} (Ok v) lawful synced = record {
       (synced.durable y
       ∙ lawful.stays_read d y b (subst (λ k. certain old k y ≡ Some b) same is)))
       (λ ne. synced.others_leave e y ne ∙ is) (cases_eq e d);
+  held = λ e y b away is has. ⊎_elim
+      (λ same. subst (λ k. Contains (able new k y) b) (sym same)
+      (synced.kept y b (lawful.stays_read d y b (subst (λ k. certain old k y ≡ Some b) same is))
+      (subst (λ k. Contains (able old k y) b) same has)))
+      (λ ne. subst (λ (l : List (List ℕ)). Contains l b) (sym (synced.others_could e y ne)) has)
+      (cases_eq e d);
   could = λ e y b away is. ⊎_elim
-      (λ same. lawful.reads_could e y b (subst (λ k. old.reads k y ≡ Some b) (sym same)
-      (synced.could y b (subst (λ k. Contains (able new k y) b) same is))))
+      (λ same. subst (λ k. Contains (able old k y) b) (sym same)
+      (synced.could y b (subst (λ k. Contains (able new k y) b) same is)).1)
       (λ ne. subst (λ (l : List (List ℕ)). Contains l b) (synced.others_could e y ne) is)
       (cases_eq e d);
   reads = λ e y b away kept is. ⊎_elim
@@ -72,6 +83,12 @@ synced_frames {old = old} {new = new} {d = d} (Err f) lawful synced = record {
       (λ same. subst (λ k. certain new k y ≡ Some b) (sym same)
       (synced.not_durable y ∙ subst (λ k. certain old k y ≡ Some b) same is))
       (λ ne. synced.others_leave e y ne ∙ is) (cases_eq e d);
+  held = λ e y b away is has. ⊎_elim
+      (λ same. subst (λ k. Contains (able new k y) b) (sym same)
+      (subst (λ (l : List (List ℕ)). Contains l b) (sym (synced.still_could y))
+      (subst (λ k. Contains (able old k y) b) same has)))
+      (λ ne. subst (λ (l : List (List ℕ)). Contains l b) (sym (synced.others_could e y ne)) has)
+      (cases_eq e d);
   could = λ e y b away is. ⊎_elim
       (λ same. subst (λ k. Contains (able old k y) b) (sym same)
       (subst (λ (l : List (List ℕ)). Contains l b) (synced.still_could y)
@@ -86,6 +103,8 @@ unchanged_frames {old = old} {new = new} same = record {
   stays = λ e y b away is.
       ap (λ t. new.leaves t e y) same.clock ∙ (same.goes_on.later.past old.clock (omega arith) e y).0
       ∙ is;
+  held = λ e y b away is has. subst (λ (l : List (List ℕ)). Contains l b)
+      (sym (ap (λ t. new.could t e y) same.clock ∙ (same.goes_on.later.past old.clock (omega arith) e y).1)) has;
   could = λ e y b away is. subst (λ (l : List (List ℕ)). Contains l b)
       (ap (λ t. new.could t e y) same.clock ∙ (same.goes_on.later.past old.clock (omega arith) e y).1)
       is;

@@ -10,20 +10,11 @@ use Rattle.uberblock_ring.specs.Uberblock.{Uber, encoded, slot_of}
 use Rattle.uberblock_ring.specs.Valid.{IsRightUber}
 use Rattle.core_state.specs.Shown.{Shape, Shows, read_devices}
 use Rattle.core_state.specs.Keeps.{Kept, Setting, IsNotOutvoted, MayVoteFor}
-use Rattle.core_state.specs.Collision.{MightStand}
+use Rattle.core_state.specs.Collision.{MightShow}
+use Rattle.core_state.specs.Rings.{IsRingSettled, ReadsNoUber}
 use Rattle.core_state.specs.Certain.{Knows, IsAble, IsSuccession, able}
 use Rattle.core_state.proofs.Left.{outvotes_more}
 use Rattle.core_state.proofs.Reaching.{votes_less}
-
--- A ring can hold nothing but what is read of it: no write to it is still to be synced.
-pub record IsRingSettled (disk : Disk) (device : ℕ) : Type 0 where
-  pub only : (slot : ℕ) (bytes : List ℕ) → slot < 32 → Contains (able disk device slot) bytes
-      → disk.reads device slot ≡ Some bytes
-
--- No slot of the device reads as a valid uberblock.
-pub record ReadsNoUber (disk : Disk) (device : ℕ) : Type 0 where
-  pub none : (uber : Uber) → IsRightUber uber → disk.reads device (slot_of uber.group) ≡ Some (encoded uber device)
-      → ⊥
 
 module _ (setting : Setting) (base reach : ℕ) (first : Kept) (later : List Kept) (disk : Disk) where
   abbrev other : Setting
@@ -34,7 +25,7 @@ module _ (setting : Setting) (base reach : ℕ) (first : Kept) (later : List Kep
   knows_in : IsSuccession other first later
       → ((device : ℕ) (uber : Uber) → IsAble setting.shape disk device uber → device < reach
       → has_device setting.failed device ≡ false → uber.pool ≡ setting.pool)
-      → ((image : Image) → MightStand setting.shape disk disk.clock image → IsNotOutvoted other image)
+      → ((image : Image) → MightShow setting.shape disk disk.clock image → IsNotOutvoted other image)
       → Knows setting first later disk
       → Knows other first later disk
   knows_in row own votes knows = record {
@@ -68,7 +59,7 @@ module _ (setting : Setting) (base reach : ℕ) (first : Kept) (later : List Kep
 
 -- What an image that might stand shows is able to stand.
 able_shown : (shape : Shape) (disk : Disk) (image : Image) (device : ℕ) (uber : Uber)
-    → MightStand shape disk disk.clock image → Shows shape image device uber → IsAble shape disk device uber
+    → MightShow shape disk disk.clock image → Shows shape image device uber → IsAble shape disk device uber
 able_shown shape disk image device uber might shows = record {
   device_in = shows.device_in;
   slot_in = shows.slot_in;
@@ -108,7 +99,7 @@ reach_more setting first later disk settled blank there knows =
         (settled.only (slot_of uber.group) (encoded uber setting.reach) (omega arith)
         (subst (λ d. Contains (able disk d (slot_of uber.group)) (encoded uber d)) same is.could))
 
-    voted : (image : Image) → MightStand setting.shape disk disk.clock image → (pool : ℕ) {device : ℕ}
+    voted : (image : Image) → MightShow setting.shape disk disk.clock image → (pool : ℕ) {device : ℕ}
         → MayVoteFor (record setting { reach = setting.reach + 1 }) image pool device
         → MayVoteFor setting image pool device
     voted image might pool (inl out) =

@@ -19,6 +19,7 @@ use Rattle.core_state.specs.Keeps.{Kept, Setting, Keeps, IsKept, ShowsGroup}
 use Rattle.core_state.specs.Collision.{MightStand, BankKeeps}
 use Rattle.core_state.specs.Certain.{Asks, joined, PageOn, IsSound, IsCertain, Knows, certain}
 use Rattle.core_state.proofs.Fresh.{none_in}
+use Rattle.core_state.proofs.Knowing.{might_show}
 use Rattle.core_state.proofs.Widths.{below_first, first_within}
 
 -- The sectors of a page, end to end.
@@ -186,7 +187,7 @@ module _ (setting : Setting) (first : Kept) (later : List Kept) (disk : Disk)
           right = shows.valid.right;
           could = might.written.ring device uber shows;
         }) below works;
-    votes = knows.votes image might;
+    votes = knows.votes image (might_show setting.shape disk disk.clock image might);
   }
 
 -- What is certain on the devices says what each image keeps.

@@ -18,7 +18,7 @@ use Rattle.uberblock_ring.proofs.OneSpelling.{encoded_tells}
 use Rattle.core_state.specs.Shown.{Shape, Shows}
 use Rattle.core_state.specs.Whole.{Excepted}
 use Rattle.core_state.specs.Keeps.{Kept, Setting, IsNotOutvoted, MayVoteFor}
-use Rattle.core_state.specs.Collision.{MightStand}
+use Rattle.core_state.specs.Collision.{HasNoOtherUber, MightStand, MightShow}
 use Rattle.core_state.specs.Certain.{Asks, CellsOn, PageOn, SlotOn, IsAble, IsCertain, Knows, certain, able}
 use Rattle.core_state.specs.Free.{IsSpare}
 use Rattle.core_state.proofs.Fresh.{first_byte}
@@ -36,23 +36,21 @@ encoded_some uber device none =
     ap (λ (bytes : List ℕ). slice_index bytes 0) none in
     omega (arith, byte, first_byte uber device)
 
--- What is read is an image that a crash may leave, and no uberblock in it is valid by chance.
-pub present_might : (shape : Shape) (disk : Disk) → Lawful disk
+-- What is read is an image that a crash may leave.
+pub present_might : (shape : Shape) (disk : Disk) → Lawful disk → HasNoOtherUber shape disk disk.clock (present disk)
     → MightStand shape disk disk.clock (present disk)
-present_might shape disk lawful = record {
+present_might shape disk lawful written = record {
   fits = record { at = λ d x b is. ap (λ o. unwrap_or o []) (lawful.stays_read d x b is) };
-  written = record {
-    ring = λ d uber shows. by d uber (disk.reads d (slot_of uber.group)) refl shows.valid.bytes_are;
-  };
+  written = written;
 }
-  where
-    by : (d : ℕ) (uber : Uber) (o : Option (List ℕ)) → disk.reads d (slot_of uber.group) ≡ o
-        → present disk d (slot_of uber.group) ≡ encoded uber d
-        → Contains (able disk d (slot_of uber.group)) (encoded uber d)
-    by d uber None is shown =
-        absurd (encoded_some uber d (sym shown ∙ ap (λ k. unwrap_or k []) is))
-    by d uber (Some b) is shown = lawful.reads_could d (slot_of uber.group) (encoded uber d)
-        (is ∙ ap (λ (k : List ℕ). Some k) (sym (ap (λ k. unwrap_or k []) is) ∙ shown))
+
+-- An image that a crash may leave shows what was handed.
+pub might_show : (shape : Shape) (disk : Disk) (moment : ℕ) (image : Image) → MightStand shape disk moment image
+    → MightShow shape disk moment image
+might_show shape disk moment image might = record {
+  handed = λ d x b is has. might.fits.at d x b is;
+  written = might.written;
+}
 
 -- A device shows the same uberblock in two images in which it has the same ring.
 pub shows_same : (shape : Shape) (image other : Image) (device : ℕ) (uber : Uber)
@@ -89,49 +87,70 @@ among_some held bytes some = by (list_any (bytes_eq bytes) held) refl some
 -- An image from before a call for one from after it: what was certain, and else what this one has, where that could
 -- stand there before.
 unfoldable earlier : Disk → Image → Image
-earlier old image d x = unwrap_or (certain old d x) (if_among (able old d x) (image d x))
+earlier old image d x = if_among (able old d x) (unwrap_or (certain old d x) (image d x))
 
--- It has an uberblock where that was certain, or could stand there and does in the image after the call.
+-- It has an uberblock where that could stand, and was certain or stands in the image after the call.
 earlier_has : (old : Disk) (image : Image) (d x : ℕ) (uber : Uber) → earlier old image d x ≡ encoded uber d
-    → (certain old d x ≡ Some (encoded uber d))
-    ⊎ (Contains (able old d x) (encoded uber d) × (image d x ≡ encoded uber d))
+    → Contains (able old d x) (encoded uber d)
+    × ((certain old d x ≡ Some (encoded uber d)) ⊎ (image d x ≡ encoded uber d))
 unfolding earlier
-earlier_has old image d x uber is = by (certain old d x) refl is
+earlier_has old image d x uber is =
+    let among = among_some (able old d x) (unwrap_or (certain old d x) (image d x))
+    (λ none. encoded_some uber d (sym is ∙ none)) in
+    let same : unwrap_or (certain old d x) (image d x) ≡ encoded uber d = sym among.1 ∙ is in
+    (subst (λ (k : List ℕ). Contains (able old d x) k) same among.0, by (certain old d x) refl same)
   where
-    by : (o : Option (List ℕ)) → certain old d x ≡ o
-        → unwrap_or o (if_among (able old d x) (image d x)) ≡ encoded uber d
-        → (certain old d x ≡ Some (encoded uber d))
-        ⊎ (Contains (able old d x) (encoded uber d) × (image d x ≡ encoded uber d))
+    by : (o : Option (List ℕ)) → certain old d x ≡ o → unwrap_or o (image d x) ≡ encoded uber d
+        → (certain old d x ≡ Some (encoded uber d)) ⊎ (image d x ≡ encoded uber d)
     by (Some b) known is = inl (known ∙ ap (λ (k : List ℕ). Some k) is)
-    by None known is =
-        let among = among_some (able old d x) (image d x) (λ none. encoded_some uber d (sym is ∙ none)) in
-        let same : image d x ≡ encoded uber d = sym among.1 ∙ is in
-        inr (subst (λ (k : List ℕ). Contains (able old d x) k) same among.0, same)
+    by None known is = inr is
 
 -- It keeps what could stand there before.
 earlier_keeps : (old : Disk) → Lawful old → (image : Image) (d x : ℕ) → Contains (able old d x) (image d x)
     → earlier old image d x ≡ image d x
 unfolding earlier
-earlier_keeps old lawful image d x could = by (certain old d x) refl
+earlier_keeps old lawful image d x could =
+    ap (if_among (able old d x)) (by (certain old d x) refl) ∙ among_same (able old d x) (image d x) could
   where
-    by : (o : Option (List ℕ)) → certain old d x ≡ o
-        → unwrap_or o (if_among (able old d x) (image d x)) ≡ image d x
+    by : (o : Option (List ℕ)) → certain old d x ≡ o → unwrap_or o (image d x) ≡ image d x
     by (Some b) known = sym (lawful.stays_could d x b (image d x) known could)
-    by None known = among_same (able old d x) (image d x) could
+    by None known = refl
 
-earlier_might : (shape : Shape) (old : Disk) → Lawful old → (image : Image)
-    → MightStand shape old old.clock (earlier old image)
+earlier_might : (shape : Shape) (old : Disk) (image : Image) → MightShow shape old old.clock (earlier old image)
 unfolding earlier
-earlier_might shape old lawful image = record {
-  fits = record { at = λ d x b known. ap (λ o. unwrap_or o (if_among (able old d x) (image d x))) known };
+earlier_might shape old image = record {
+  handed = λ d x b known has. ap (λ o. if_among (able old d x) (unwrap_or o (image d x))) known
+      ∙ among_same (able old d x) b has;
   written = record {
-    ring = λ d uber shows. ⊎_elim
-        (λ known. lawful.reads_could d (slot_of uber.group) (encoded uber d)
-        (lawful.stays_read d (slot_of uber.group) (encoded uber d) known))
-        (λ could. could.0)
-        (earlier_has old image d (slot_of uber.group) uber shows.valid.bytes_are);
+    ring = λ d uber shows. (earlier_has old image d (slot_of uber.group) uber shows.valid.bytes_are).0;
   };
 }
+
+-- A device that may vote for a pool may do so in another image that shows that pool's uberblocks on it, and outside no
+-- others that the first one doesn't.
+pub vote_moves : (setting : Setting) (one other : Image) (pool device : ℕ)
+    → ((uber : Uber) → uber.pool ≡ pool → Shows setting.shape one device uber → Shows setting.shape other device uber)
+    → ((uber : Uber) → setting.reach ≤ device → Shows setting.shape other device uber
+    → Shows setting.shape one device uber)
+    → MayVoteFor setting one pool device
+    → MayVoteFor setting other pool device
+vote_moves setting one other pool device there back (inl out) = inl (record {
+  outside = out.outside;
+  names = record {
+    reads = out.names.reads;
+    uber = out.names.uber;
+    shows = there out.names.uber out.names.pool_is out.names.shows;
+    greatest = λ later shows. out.names.greatest later (back later out.outside shows);
+    pool_is = out.names.pool_is;
+  };
+})
+vote_moves setting one other pool device there back (inr gone) = inr (record {
+  within = gone.within;
+  failed = gone.failed;
+  uber = gone.uber;
+  shows = there gone.uber gone.pool_is gone.shows;
+  pool_is = gone.pool_is;
+})
 
 -- A call that writes rings of the pool's own devices alone, and no uberblock of another pool, changes no vote for
 -- another.
@@ -141,7 +160,7 @@ module _ (setting : Setting) (here : ℕ → ℕ → Type 0) (lost : ℕ → Boo
     (own : (d : ℕ) (uber : Uber) → IsAble setting.shape new d uber
     → (uber.pool ≡ setting.pool) ⊎ IsAble setting.shape old d uber) where
   -- An uberblock of another pool is shown before,
-  shown_before : (image : Image) → MightStand setting.shape new new.clock image → (d : ℕ) (uber : Uber)
+  shown_before : (image : Image) → MightShow setting.shape new new.clock image → (d : ℕ) (uber : Uber)
       → uber.pool ≢ setting.pool → Shows setting.shape image d uber → Shows setting.shape (earlier old image) d uber
   shown_before image might d uber other shows = ⊎_elim
       (λ (same : uber.pool ≡ setting.pool). absurd (other same))
@@ -165,7 +184,7 @@ module _ (setting : Setting) (here : ℕ → ℕ → Type 0) (lost : ℕ → Boo
       }))
 
   -- and outside nothing is that is not shown after.
-  shown_after : (image : Image) → MightStand setting.shape new new.clock image → (d : ℕ) (uber : Uber)
+  shown_after : (image : Image) → MightShow setting.shape new new.clock image → (d : ℕ) (uber : Uber)
       → setting.reach ≤ d → Shows setting.shape (earlier old image) d uber → Shows setting.shape image d uber
   shown_after image might d uber outside shows = record {
     device_in = shows.device_in;
@@ -174,41 +193,33 @@ module _ (setting : Setting) (here : ℕ → ℕ → Type 0) (lost : ℕ → Boo
       right = shows.valid.right;
       slot_is = shows.valid.slot_is;
       bytes_are = ⊎_elim
-          (λ known. might.fits.at d (slot_of uber.group) (encoded uber d)
-          (frames.stays d (slot_of uber.group) (encoded uber d)
-          (λ h. omega (arith, inside d (slot_of uber.group) h (slot_low uber.group), outside)) known))
-          (λ could. could.1)
-          (earlier_has old image d (slot_of uber.group) uber shows.valid.bytes_are);
+          (λ known. might.handed d (slot_of uber.group) (encoded uber d)
+          (frames.stays d (slot_of uber.group) (encoded uber d) away known)
+          (frames.held d (slot_of uber.group) (encoded uber d) away known has.0))
+          (λ same. same) has.1;
     };
   }
+    where
+      has : Contains (able old d (slot_of uber.group)) (encoded uber d)
+          × ((certain old d (slot_of uber.group) ≡ Some (encoded uber d))
+          ⊎ (image d (slot_of uber.group) ≡ encoded uber d))
+      has = earlier_has old image d (slot_of uber.group) uber shows.valid.bytes_are
 
-  votes_before : (image : Image) → MightStand setting.shape new new.clock image → (other d : ℕ)
+      away : here d (slot_of uber.group) → ⊥
+      away h = omega (arith, inside d (slot_of uber.group) h (slot_low uber.group), outside)
+
+  votes_before : (image : Image) → MightShow setting.shape new new.clock image → (other d : ℕ)
       → other ≢ setting.pool → MayVoteFor setting image other d → MayVoteFor setting (earlier old image) other d
-  votes_before image might other d differs (inl out) = inl (record {
-    outside = out.outside;
-    names = record {
-      reads = out.names.reads;
-      uber = out.names.uber;
-      shows = shown_before image might d out.names.uber (λ same. differs (sym out.names.pool_is ∙ same))
-          out.names.shows;
-      greatest = λ later shows. out.names.greatest later (shown_after image might d later out.outside shows);
-      pool_is = out.names.pool_is;
-    };
-  })
-  votes_before image might other d differs (inr gone) = inr (record {
-    within = gone.within;
-    failed = gone.failed;
-    uber = gone.uber;
-    shows = shown_before image might d gone.uber (λ same. differs (sym gone.pool_is ∙ same)) gone.shows;
-    pool_is = gone.pool_is;
-  })
+  votes_before image might other d differs = vote_moves setting image (earlier old image) other d
+      (λ uber pool_is shows. shown_before image might d uber (λ same. differs (sym pool_is ∙ same)) shows)
+      (λ uber outside shows. shown_after image might d uber outside shows)
 
-  pub votes_frame : ((image : Image) → MightStand setting.shape old old.clock image
+  pub votes_frame : ((image : Image) → MightShow setting.shape old old.clock image
       → IsNotOutvoted setting image)
-      → (image : Image) → MightStand setting.shape new new.clock image
+      → (image : Image) → MightShow setting.shape new new.clock image
       → IsNotOutvoted setting image
   votes_frame votes image might other others differs distinct each =
-      votes (earlier old image) (earlier_might setting.shape old lawful image) other others differs distinct
+      votes (earlier old image) (earlier_might setting.shape old image) other others differs distinct
       (λ k d low. votes_before image might other _ differs (each k d low))
 
 -- A page, a slot and blocks that a call doesn't touch.

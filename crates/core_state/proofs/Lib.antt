@@ -11,6 +11,7 @@ pub mod Keeping
 pub mod Places
 pub mod Frames
 pub mod Knowing
+pub mod Showing
 pub mod Calls
 pub mod Laying
 pub mod Signing

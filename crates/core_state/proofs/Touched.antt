@@ -1,5 +1,5 @@
 -- What a run of calls that touches spare sectors alone leaves of what images keep.
-use Rattle.std.proofs.Common.{⊎_elim, ℕ, ◌≤◌, List, refl, ◌∙◌, subst, arith}
+use Rattle.std.proofs.Common.{⊎_elim, ℕ, ◌≤◌, List, refl, sym, ◌∙◌, subst, arith}
 use Rattle.std.specs.Prelude.{Contains}
 use Rattle.std.proofs.lemmas.Bool.{cases_lt}
 use Rattle.bank_trait.specs.Disk.{Disk, Lawful}
@@ -21,6 +21,8 @@ module _ (P : ℕ → ℕ → Type 0) {old new : Disk} (touched : TouchesOnly P 
       → Frames P none_lost old (disk_at moment)
   frames_at moment low high = record {
     stays = λ d x bytes away is. (touched.moments moment low high d x away).0 ∙ is;
+    held = λ d x bytes away is has. subst (λ (l : List (List ℕ)). Contains l bytes)
+        (sym (touched.moments moment low high d x away).1) has;
     could = λ d x bytes away has. subst (λ (l : List (List ℕ)). Contains l bytes)
         (touched.moments moment low high d x away).1 has;
     reads = λ d x bytes away kept is. is;
@@ -29,6 +31,8 @@ module _ (P : ℕ → ℕ → Type 0) {old new : Disk} (touched : TouchesOnly P 
   pub touched_frames : Frames P none_lost old new
   touched_frames = record {
     stays = λ d x bytes away is. touched.leaves d x away ∙ is;
+    held = λ d x bytes away is has. subst (λ (l : List (List ℕ)). Contains l bytes)
+        (sym (touched.moments new.clock touched.later.clock (omega arith) d x away).1) has;
     could = λ d x bytes away has. subst (λ (l : List (List ℕ)). Contains l bytes)
         (touched.moments new.clock touched.later.clock (omega arith) d x away).1 has;
     reads = λ d x bytes away kept is. touched.reads d x away ∙ is;

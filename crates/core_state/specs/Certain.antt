@@ -12,7 +12,7 @@ use Rattle.core_state.specs.Index.{IsFitting, IsIndexOf, IsListing}
 use Rattle.core_state.specs.Shown.{Shape, read_devices}
 use Rattle.core_state.specs.Whole.{Excepted, Cell, IsCellOf}
 use Rattle.core_state.specs.Keeps.{Kept, Setting, IsNextOf, IsNotOutvoted, HasWidthIn, HasDevices}
-use Rattle.core_state.specs.Collision.{MightStand}
+use Rattle.core_state.specs.Collision.{MightShow}
 
 -- what a crash now leaves for certain, and what each sector could hold after one
 abbrev pub certain : Disk → Known
@@ -117,5 +117,5 @@ pub record Knows (setting : Setting) (first : Kept) (later : List Kept) (disk : 
   pub own : (device : ℕ) (uber : Uber) → IsAble setting.shape disk device uber
       → device < setting.reach → has_device setting.failed device ≡ false
       → uber.pool ≡ setting.pool
-  pub votes : (image : Image) → MightStand setting.shape disk disk.clock image
+  pub votes : (image : Image) → MightShow setting.shape disk disk.clock image
       → IsNotOutvoted setting image

@@ -9,6 +9,7 @@ pub mod Whole
 pub mod Keeps
 pub mod Collision
 pub mod Certain
+pub mod Rings
 pub mod Free
 pub mod Committing
 pub mod Moment

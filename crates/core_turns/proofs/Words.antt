@@ -162,7 +162,7 @@ pub use Rattle.core_open.proofs.Answered.{answered_under, may_grow_now}
 pub use Rattle.core_open.proofs.Banks.{bank_later, count_grows}
 pub use Rattle.core_open.proofs.Committing.{may_commit}
 pub use Rattle.core_open.proofs.Frees.{freed_holds, none_freed_holds}
-pub use Rattle.core_open.proofs.Growing.{MayGrow}
+pub use Rattle.core_blocks.specs.Growing.{MayGrow}
 pub use Rattle.core_open.proofs.Holding.{block_stays, listed_in_pool, put_holds}
 pub use Rattle.core_open.proofs.Layouts.{blocks_apart, entry_in_pool, sector_inside}
 pub use Rattle.core_open.proofs.NextGroup.{IsReady, ready}

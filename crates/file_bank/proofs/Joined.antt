@@ -1,6 +1,6 @@
 -- What a call on one file does to the bank that the files make.
 use Rattle.std.proofs.Common.{◌≡◌, ◌≢◌, ◌⊎◌, inl, inr, ℕ, ◌+◌, ◌<◌, ◌≤◌, List, length, Option, None, Result, Ok, Err}
-use Rattle.std.proofs.Common.{refl, sym, ◌∙◌, ap, subst, arith, slice_index_or, slice_set}
+use Rattle.std.proofs.Common.{Some, refl, sym, ◌∙◌, ap, subst, arith, slice_index_or, slice_set}
 use Rattle.std.proofs.lemmas.List.{get_or-set_same, get_or-set_other, length-set, get_or_default}
 use Rattle.std.proofs.lemmas.Bool.{cases_eq}
 use Rattle.std.specs.Prelude.{IsSome, Contains, OnOk, OnErr}
@@ -152,10 +152,10 @@ module _ (devices as_many sectors : ℕ) (files new : ℕ → Contents) (faults 
           (sym is) (here y other ∙ could_before y)
       by_case (inr not) = others_could e y not
 
-  still_could : (x : ℕ) (bytes b : List ℕ) → (b ≡ bytes) ⊎ Contains ((files d).could (files d).last x) b
+  new_or_before : (x : ℕ) (bytes b : List ℕ) → (b ≡ bytes) ⊎ Contains ((files d).could (files d).last x) b
       → (b ≡ bytes) ⊎ Contains (before.could before.clock d x) b
-  still_could x bytes b (inl new_one) = inl new_one
-  still_could x bytes b (inr among) =
+  new_or_before x bytes b (inl new_one) = inl new_one
+  new_or_before x bytes b (inr among) =
       inr (subst (λ (l : List (List ℕ)). Contains l b) (could_before x) among)
 
   wrote : (x : ℕ) (bytes : List ℕ) (result : Result (Unit {0}) Failed)
@@ -170,7 +170,10 @@ module _ (devices as_many sectors : ℕ) (files new : ℕ → Contents) (faults 
     torn = here.torn;
     others_read = λ e y other. others_read e x y other here.others_read;
     others_leave = λ e y other. others_left e x y other here.others_leave;
-    could = λ b among. still_could x bytes b (here.could b among);
+    could = λ b among. new_or_before x bytes b (here.could b among);
+    handed = here.handed;
+    still_could = λ b among. here.still_could b
+        (subst (λ (l : List (List ℕ)). Contains l b) (sym (could_before x)) among);
     others_could = λ e y other. others_could_be e x y other here.others_could;
   }
 
@@ -186,6 +189,25 @@ module _ (devices as_many sectors : ℕ) (files new : ℕ → Contents) (faults 
   could_still (Ok done) left = tt
   could_still (Err e) left = λ x. left x ∙ could_before x
 
+  could_of : (result : Result (Unit {0}) Failed)
+      → OnOk result ((x : ℕ) (b : List ℕ) → Contains ((new d).could moment x) b
+      → ((files d).reads x ≡ Some b) × Contains ((files d).could (files d).last x) b)
+      → OnOk result ((x : ℕ) (b : List ℕ) → Contains ((new d).could moment x) b
+      → ((files d).reads x ≡ Some b) × Contains ((files d).could clock x) b)
+  could_of (Ok done) could = λ x b among.
+      let both = could x b among in
+      (both.0, subst (λ (l : List (List ℕ)). Contains l b) (could_before x) both.1)
+  could_of (Err e) could = tt
+
+  kept_of : (result : Result (Unit {0}) Failed)
+      → OnOk result ((x : ℕ) (b : List ℕ) → (files d).reads x ≡ Some b
+      → Contains ((files d).could (files d).last x) b → Contains ((new d).could moment x) b)
+      → OnOk result ((x : ℕ) (b : List ℕ) → (files d).reads x ≡ Some b
+      → Contains ((files d).could clock x) b → Contains ((new d).could moment x) b)
+  kept_of (Ok done) kept = λ x b is among.
+      kept x b is (subst (λ (l : List (List ℕ)). Contains l b) (sym (could_before x)) among)
+  kept_of (Err e) kept = tt
+
   synced : (result : Result (Unit {0}) Failed) → Settled (files d) (new d) moment result
       → CountsCall faults counts d result → Synced before after d result
   synced result here counted = record {
@@ -199,7 +221,8 @@ module _ (devices as_many sectors : ℕ) (files new : ℕ → Contents) (faults 
     reads_certain = λ x bytes certain. here.reads_certain x bytes (left_before x ∙ certain);
     others_read = λ e x other. ap (λ (c : Contents). c.reads x) (others e other);
     others_leave = others_leave;
-    could = here.could;
+    could = could_of result here.could;
+    kept = kept_of result here.kept;
     still_could = could_still result here.still_could;
     others_could = others_could;
   }

@@ -10,8 +10,8 @@ use Rattle.file_bank.specs.declared.record.Call.{Call}
 use Rattle.file_bank.specs.declared.record.Call.TheVariants.{Write}
 use Rattle.file_bank.specs.BlockFile.{Contents, CountsFault}
 use Rattle.file_bank.specs.Record.{FileHeld, all_certain, after_call, replayed_to, AllBy, contents_of}
-use Rattle.file_bank.specs.Row.{KeptSector, told_as, could_too, with_sector, with_row, TellsSame, IsRising, AllKeptBy}
-use Rattle.file_bank.specs.Row.{kept_sector}
+use Rattle.file_bank.specs.Row.{KeptSector, told_as, could_too, with_sector, with_row, TellsSame, HasRisingMoments}
+use Rattle.file_bank.specs.Row.{AllKeptBy, kept_sector}
 use Rattle.file_bank.specs.MemLaws.{is_before, replay_still}
 use Rattle.file_bank.specs.RowLaws.{read_here, left_here, left_after, could_here, could_after, read_other, left_other}
 use Rattle.file_bank.specs.RowLaws.{could_other, row_length}
@@ -63,9 +63,9 @@ row_step old now next x i n row kept below at place so_far step =
     (same_trans here (row_same (with_sector now (x + i) kept) next (x + i + 1) (drop (i + 1) row) wrote))
 
 pub rising_step : (last i : ℕ) (row : List KeptSector) (kept : KeptSector) → i < length row
-    → kept ≡ get_or row i kept → IsRising last (drop i row)
-    → (last < kept.moment) × IsRising kept.moment (drop (i + 1) row)
-rising_step last i row kept below at rising = subst (λ (l : List KeptSector). IsRising last l)
+    → kept ≡ get_or row i kept → HasRisingMoments last (drop i row)
+    → (last < kept.moment) × HasRisingMoments kept.moment (drop (i + 1) row)
+rising_step last i row kept below at rising = subst (λ (l : List KeptSector). HasRisingMoments last l)
     (drop_here i row kept below at) rising
 
 pub by_at : (last i : ℕ) (row : List KeptSector) (kept : KeptSector) → i < length row → kept ≡ get_or row i kept

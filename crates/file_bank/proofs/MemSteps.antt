@@ -13,7 +13,7 @@ use Rattle.file_bank.specs.declared.record.Call.TheVariants.{Write, Sync}
 use Rattle.file_bank.specs.BlockFile.{GoesOn, Written, Settled}
 use Rattle.file_bank.specs.Record.{FileHeld, all_certain, after_call, moment_of, replayed_to, AllBy, LeadsToSectors}
 use Rattle.file_bank.specs.Record.{contents_of}
-use Rattle.file_bank.specs.MemLaws.{not_before, is_before, by_head, by_tail, replay_still}
+use Rattle.file_bank.specs.MemLaws.{not_before, is_before, by_head, by_tail, replay_still, in_list, record_could}
 
 -- A call is replayed from its moment on.
 replay_before : (t : ℕ) (held : FileHeld) (calls : List Call) (call : Call) → t < moment_of call
@@ -61,6 +61,10 @@ read_at (Some c) b among = at among.0 among.1 among.2
     at : (k : ℕ) → k < 1 → get_or (c ∷ []) k b ≡ b → Some c ≡ Some b
     at zero below is = ap Some is
     at (suc k) below is = absurd (omega (arith, below))
+
+-- What a sector could hold it still could, once it was handed more.
+older : (bytes : List ℕ) (others : List (List ℕ)) (b : List ℕ) → Contains others b → Contains (bytes ∷ others) b
+older bytes others b among = (suc among.0, omega (arith, among.1), among.2)
 
 -- One call more on record.
 module _ (first present new : List (List ℕ)) (calls later : List Call) (last moment : ℕ)
@@ -207,6 +211,11 @@ wrote first present calls later last moment x bytes one_more above below by =
           ap (λ (h : FileHeld). h.stays y) is_now ∙ stays_other held moment x bytes y other;
       could = λ b among. newest bytes (held.could x) b (subst (λ (l : List (List ℕ)). Contains l b)
           (ap (λ (h : FileHeld). h.could x) is_now ∙ could_now_here held moment x bytes) among);
+      handed = λ is. subst (λ (l : List (List ℕ)). Contains l bytes)
+          (sym (ap (λ (h : FileHeld). h.could x) is_now ∙ could_now_here held moment x bytes)) (0, omega arith, refl);
+      still_could = λ b among. subst (λ (l : List (List ℕ)). Contains l b)
+          (sym (ap (λ (h : FileHeld). h.could x) is_now ∙ could_now_here held moment x bytes))
+          (older bytes (held.could x) b among);
       others_could = λ y other.
           ap (λ (h : FileHeld). h.could y) is_now ∙ could_now_other held moment x bytes y other;
     }
@@ -229,8 +238,13 @@ synced first present calls later last moment one_more above by leads = record {
   not_durable = tt;
   reads = λ x. refl;
   reads_certain = λ x bytes certain. refl;
-  could = λ x b among. sym (leads x) ∙ read_at ((replayed_to last (all_certain first) calls).reads x) b
-      (subst (λ (l : List (List ℕ)). Contains l b) (ap (λ (h : FileHeld). h.could x) is_now) among);
+  could = λ x b among.
+      let is : slice_get present x ≡ Some b =
+      sym (leads x) ∙ read_at ((replayed_to last (all_certain first) calls).reads x) b
+      (subst (λ (l : List (List ℕ)). Contains l b) (ap (λ (h : FileHeld). h.could x) is_now) among) in
+      (is, record_could first present calls last leads x b is);
+  kept = λ x b is among. subst (λ (l : List (List ℕ)). Contains l b) (sym (ap (λ (h : FileHeld). h.could x) is_now))
+      (in_list ((replayed_to last (all_certain first) calls).reads x) b (leads x ∙ is));
   still_could = tt;
 }
   where
@@ -260,6 +274,9 @@ write_failed first present calls later last moment x bytes e same above by =
       others_leave = λ y other. ap (λ (h : FileHeld). h.stays y) still;
       could = λ b among. inr (subst (λ (l : List (List ℕ)). Contains l b)
           (ap (λ (h : FileHeld). h.could x) still) among);
+      handed = tt;
+      still_could = λ b among. subst (λ (l : List (List ℕ)). Contains l b)
+          (sym (ap (λ (h : FileHeld). h.could x) still)) among;
       others_could = λ y other. ap (λ (h : FileHeld). h.could y) still;
     }
 
@@ -283,6 +300,7 @@ sync_failed first present calls later last moment e same above by =
       reads = tt;
       reads_certain = λ x bytes certain. refl;
       could = tt;
+      kept = tt;
       still_could = λ x. ap (λ (h : FileHeld). h.could x) still;
     }
 

@@ -8,8 +8,8 @@ use Rattle.std.specs.Prelude.{if◌then◌else◌, IsSome, Contains, slice_get}
 use Rattle.std.proofs.lemmas.Bool.{cases_eq}
 use Rattle.bank_trait.specs.declared.Failed.{Failed}
 use Rattle.file_bank.specs.BlockFile.{Contents, GivesBytes, GoesOn, Written, Settled, LawfulFile}
-use Rattle.file_bank.specs.Row.{KeptSector, told_as, could_too, with_sector, with_row, by_moment, TellsSame, IsRising}
-use Rattle.file_bank.specs.Row.{AllKeptBy, AllWhole, HandedOver}
+use Rattle.file_bank.specs.Row.{KeptSector, told_as, could_too, with_sector, with_row, by_moment, TellsSame}
+use Rattle.file_bank.specs.Row.{HasRisingMoments, AllKeptBy, AllWhole, HandedOver}
 use Rattle.file_bank.specs.MemLaws.{is_before}
 use Rattle.file_bank.specs.RowLaws.{read_here, left_here, left_after, could_here, could_after, read_other, left_other}
 use Rattle.file_bank.specs.RowLaws.{could_other}
@@ -50,9 +50,9 @@ pub whole_one_more : (row : List KeptSector) (kept : KeptSector) → AllWhole ro
 whole_one_more [] kept all is = (is, tt)
 whole_one_more (first ∷ row) kept all is = (all.0, whole_one_more row kept all.1 is)
 
-pub rising_one_more : (first last : ℕ) (row : List KeptSector) (kept : KeptSector) → IsRising first row
+pub rising_one_more : (first last : ℕ) (row : List KeptSector) (kept : KeptSector) → HasRisingMoments first row
     → first ≤ last → AllKeptBy last row → last < kept.moment
-    → IsRising first (row ++ kept ∷ [])
+    → HasRisingMoments first (row ++ kept ∷ [])
 rising_one_more first last [] kept rising le by above = (omega (arith, le, above), tt)
 rising_one_more first last (one ∷ row) kept rising le by above =
     (rising.0, rising_one_more one.moment last row kept rising.1 by.0 by.1 above)
@@ -97,6 +97,16 @@ could_cases (Some was) bytes b others among = at among.0 among.1 among.2
     at zero below is = inl (sym is)
     at (suc k) below is = inr (k, omega (arith, below), is)
 
+could_new : (o : Option (List ℕ)) (bytes : List ℕ) (others : List (List ℕ)) → IsSome o
+    → Contains (could_too bytes o others) bytes
+could_new None bytes others is = absurd (cc)
+could_new (Some was) bytes others is = (0, omega arith, refl)
+
+could_old : (o : Option (List ℕ)) (bytes b : List ℕ) (others : List (List ℕ)) → Contains others b
+    → Contains (could_too bytes o others) b
+could_old None bytes b others among = among
+could_old (Some was) bytes b others among = (suc among.0, omega (arith, among.1), among.2)
+
 told_still : (o : Option (List ℕ)) (bytes : List ℕ) → IsSome o → IsSome (told_as bytes o)
 told_still None bytes is = absurd (cc)
 told_still (Some was) bytes is = refl
@@ -122,6 +132,10 @@ module _ (old : Contents) (x : ℕ) (kept : KeptSector) (laws : LawfulFile old) 
       )
   past t before y (inr other) = (left_other old x kept y other t, could_other old x kept y other t)
 
+  could_now : new.could kept.moment x ≡ could_too kept.bytes (old.reads x) (old.could old.last x)
+  could_now = could_after old x kept kept.moment (omega arith)
+      ∙ ap (could_too kept.bytes (old.reads x)) ((laws.still kept.moment (omega (arith, above)) x).1)
+
   pub sector_written : Written old new kept.moment x kept.bytes (Ok tt)
   sector_written = record {
     goes_on = record {
@@ -136,8 +150,11 @@ module _ (old : Contents) (x : ℕ) (kept : KeptSector) (laws : LawfulFile old) 
     others_leave = λ y other. left_other old x kept y other kept.moment
         ∙ (laws.still kept.moment (omega (arith, above)) y).0;
     could = λ b among. could_cases (old.reads x) kept.bytes b (old.could old.last x)
-        (subst (λ (l : List (List ℕ)). Contains l b) (could_after old x kept kept.moment (omega arith)
-        ∙ ap (could_too kept.bytes (old.reads x)) ((laws.still kept.moment (omega (arith, above)) x).1)) among);
+        (subst (λ (l : List (List ℕ)). Contains l b) could_now among);
+    handed = λ is. subst (λ (l : List (List ℕ)). Contains l kept.bytes) (sym could_now)
+        (could_new (old.reads x) kept.bytes (old.could old.last x) is);
+    still_could = λ b among. subst (λ (l : List (List ℕ)). Contains l b) (sym could_now)
+        (could_old (old.reads x) kept.bytes b (old.could old.last x) among);
     others_could = λ y other. could_other old x kept y other kept.moment
         ∙ (laws.still kept.moment (omega (arith, above)) y).1;
   }
@@ -167,6 +184,8 @@ module _ (old new : Contents) (moment : ℕ) (same : TellsSame old new) (laws : 
     others_read = λ y other. same.reads y;
     others_leave = λ y other. left_still y;
     could = λ b among. inr (subst (λ (l : List (List ℕ)). Contains l b) (could_still x) among);
+    handed = tt;
+    still_could = λ b among. subst (λ (l : List (List ℕ)). Contains l b) (sym (could_still x)) among;
     others_could = λ y other. could_still y;
   }
 
@@ -178,6 +197,7 @@ module _ (old new : Contents) (moment : ℕ) (same : TellsSame old new) (laws : 
     reads = tt;
     reads_certain = λ x bytes certain. same.reads x;
     could = tt;
+    kept = tt;
     still_could = could_still;
   }
 
@@ -192,10 +212,16 @@ module _ (old mid new : Contents) (moment : ℕ) (same : TellsSame old mid) (law
   could_from x = sym ((mid_laws.still moment (omega (arith, mid_above)) x).1) ∙ same.could moment x
       ∙ (laws.still moment (omega (arith, above)) x).1
 
+  among_from : (x : ℕ) (b : List ℕ) → Contains (mid.could mid.last x) b → Contains (old.could old.last x) b
+  among_from x b among = subst (λ (l : List (List ℕ)). Contains l b) (could_from x) among
+
+  among_mid : (x : ℕ) (b : List ℕ) → Contains (old.could old.last x) b → Contains (mid.could mid.last x) b
+  among_mid x b among = subst (λ (l : List (List ℕ)). Contains l b) (sym (could_from x)) among
+
   could_or : (x : ℕ) (bytes b : List ℕ) → (b ≡ bytes) ⊎ Contains (mid.could mid.last x) b
       → (b ≡ bytes) ⊎ Contains (old.could old.last x) b
   could_or x bytes b (inl is) = inl is
-  could_or x bytes b (inr among) = inr (subst (λ (l : List (List ℕ)). Contains l b) (could_from x) among)
+  could_or x bytes b (inr among) = inr (among_from x b among)
 
   goes_on_from : GoesOn mid new moment → GoesOn old new moment
   goes_on_from on = record {
@@ -214,6 +240,8 @@ module _ (old mid new : Contents) (moment : ℕ) (same : TellsSame old mid) (law
     others_read = λ y other. w.others_read y other ∙ same.reads y;
     others_leave = λ y other. w.others_leave y other ∙ left_from y;
     could = λ b among. could_or x bytes b (w.could b among);
+    handed = λ is. w.handed (subst (λ (o : Option (List ℕ)). IsSome o) (sym (same.reads x)) is);
+    still_could = λ b among. w.still_could b (among_mid x b among);
     others_could = λ y other. w.others_could y other ∙ could_from y;
   }
   written_from x bytes (Err e) w = record {
@@ -223,6 +251,8 @@ module _ (old mid new : Contents) (moment : ℕ) (same : TellsSame old mid) (law
     others_read = λ y other. w.others_read y other ∙ same.reads y;
     others_leave = λ y other. w.others_leave y other ∙ left_from y;
     could = λ b among. could_or x bytes b (w.could b among);
+    handed = tt;
+    still_could = λ b among. w.still_could b (among_mid x b among);
     others_could = λ y other. w.others_could y other ∙ could_from y;
   }
 
@@ -233,7 +263,8 @@ module _ (old mid new : Contents) (moment : ℕ) (same : TellsSame old mid) (law
     not_durable = tt;
     reads = λ x. s.reads x ∙ same.reads x;
     reads_certain = λ x bytes certain. s.reads_certain x bytes (left_from x ∙ certain) ∙ same.reads x;
-    could = λ x b among. sym (same.reads x) ∙ s.could x b among;
+    could = λ x b among. (sym (same.reads x) ∙ (s.could x b among).0, among_from x b (s.could x b among).1);
+    kept = λ x b is among. s.kept x b (same.reads x ∙ is) (among_mid x b among);
     still_could = tt;
   }
   settled_from (Err e) s = record {
@@ -243,6 +274,7 @@ module _ (old mid new : Contents) (moment : ℕ) (same : TellsSame old mid) (law
     reads = tt;
     reads_certain = λ x bytes certain. s.reads_certain x bytes (left_from x ∙ certain) ∙ same.reads x;
     could = tt;
+    kept = tt;
     still_could = λ x. s.still_could x ∙ could_from x;
   }
 
@@ -256,6 +288,7 @@ settled_by old new moment (Ok done) s = record {
   reads = s.reads;
   reads_certain = s.reads_certain;
   could = s.could;
+  kept = s.kept;
   still_could = tt;
 }
 settled_by old new moment (Err e) s = record {
@@ -265,6 +298,7 @@ settled_by old new moment (Err e) s = record {
   reads = tt;
   reads_certain = s.reads_certain;
   could = tt;
+  kept = tt;
   still_could = s.still_could;
 }
 
@@ -337,8 +371,8 @@ whole_none row none = subst (λ (l : List KeptSector). AllWhole l) (sym none) tt
 pub by_none : (last : ℕ) (row : List KeptSector) → row ≡ [] → AllKeptBy last row
 by_none last row none = subst (λ (l : List KeptSector). AllKeptBy last l) (sym none) tt
 
-pub rising_none : (last : ℕ) (row : List KeptSector) → row ≡ [] → IsRising last row
-rising_none last row none = subst (λ (l : List KeptSector). IsRising last l) (sym none) tt
+pub rising_none : (last : ℕ) (row : List KeptSector) → row ≡ [] → HasRisingMoments last row
+rising_none last row none = subst (λ (l : List KeptSector). HasRisingMoments last l) (sym none) tt
 
 -- The same row over the same file.
 pub tells_rows : (file : Contents) (m n x : ℕ) (items row : List KeptSector) → items ≡ row

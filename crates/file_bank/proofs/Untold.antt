@@ -19,8 +19,10 @@ untold_sector : (bytes x : ℕ) (kept : KeptSector) → TellsSame (with_sector (
 untold_sector bytes x kept = record {
   length = refl;
   reads = λ y. none_here (y == x);
-  leaves = λ t y. none_here (y == x) ∙ ap (λ (o : Option (List ℕ)). if y == x then o else None) (none_here (nat_lt t kept.moment));
-  could = λ t y. empty_here (y == x) ∙ ap (λ (l : List (List ℕ)). if y == x then l else []) (empty_here (nat_lt t kept.moment));
+  leaves = λ t y. none_here (y == x)
+      ∙ ap (λ (o : Option (List ℕ)). if y == x then o else None) (none_here (nat_lt t kept.moment));
+  could = λ t y. empty_here (y == x)
+      ∙ ap (λ (l : List (List ℕ)). if y == x then l else []) (empty_here (nat_lt t kept.moment));
 }
 
 untold_row : (bytes x : ℕ) (row : List KeptSector) → TellsSame (with_row (untold bytes) x row) (untold bytes)

@@ -47,7 +47,9 @@ pub record GoesOn (old new : Contents) (moment : ℕ) : Type 0 where
   pub past : (t : ℕ) → t < moment → (x : ℕ)
       → (new.leaves t x ≡ old.leaves t x) × (new.could t x ≡ old.could t x)
 
--- After a write to sector x a crash may leave any bytes there until the next sync; all else stays.
+-- After a write to sector x a crash may leave any bytes there until the next sync; all else stays. One that
+-- fails may leave any bytes to be read, but what the sector was handed is on record: these bytes, where the
+-- write went well.
 pub record Written (old new : Contents) (moment x : ℕ) (bytes : List ℕ)
     (result : Result (Unit {0}) Failed) : Type 0 where
   pub goes_on : GoesOn old new moment
@@ -57,10 +59,12 @@ pub record Written (old new : Contents) (moment x : ℕ) (bytes : List ℕ)
   pub others_leave : (y : ℕ) → y ≢ x → new.leaves moment y ≡ old.leaves old.last y
   pub could : (b : List ℕ) → Contains (new.could moment x) b
       → (b ≡ bytes) ⊎ Contains (old.could old.last x) b
+  pub handed : OnOk result (IsSome (old.reads x) → Contains (new.could moment x) bytes)
+  pub still_could : (b : List ℕ) → Contains (old.could old.last x) b → Contains (new.could moment x) b
   pub others_could : (y : ℕ) → y ≢ x → new.could moment y ≡ old.could old.last y
 
--- After a sync a crash leaves what is read. One that fails makes nothing certain, and what a crash
--- could change may have changed.
+-- After a sync a crash leaves what is read, and of what a sector was handed it could hold that alone. One that
+-- fails makes nothing certain, and what a crash could change may have changed.
 pub record Settled (old new : Contents) (moment : ℕ) (result : Result (Unit {0}) Failed) :
     Type 0 where
   pub goes_on : GoesOn old new moment
@@ -70,17 +74,17 @@ pub record Settled (old new : Contents) (moment : ℕ) (result : Result (Unit {0
   pub reads_certain : (x : ℕ) (bytes : List ℕ) → old.leaves old.last x ≡ Some bytes
       → new.reads x ≡ old.reads x
   pub could : OnOk result ((x : ℕ) (b : List ℕ) → Contains (new.could moment x) b
-      → old.reads x ≡ Some b)
+      → (old.reads x ≡ Some b) × Contains (old.could old.last x) b)
+  pub kept : OnOk result ((x : ℕ) (b : List ℕ) → old.reads x ≡ Some b → Contains (old.could old.last x) b
+      → Contains (new.could moment x) b)
   pub still_could : OnErr result ((x : ℕ) → new.could moment x ≡ old.could old.last x)
 
--- The laws of a file at any moment: what is certain to stay is what is read, what is read is one of what
--- the sector could hold, where bytes are certain it could hold no others, nothing changes after the
--- last call, and a sector that is told has 512 bytes.
+-- The laws of a file at any moment: what is certain to stay is what is read, where bytes are certain the
+-- sector could hold no others, nothing changes after the last call, and a sector that is told has 512 bytes.
+-- What is read need be none of what it was handed: a write that failed may have left any bytes.
 pub record LawfulFile (file : Contents) : Type 0 where
   pub stays_read : (x : ℕ) (bytes : List ℕ) → file.leaves file.last x ≡ Some bytes
       → file.reads x ≡ Some bytes
-  pub reads_could : (x : ℕ) (bytes : List ℕ) → file.reads x ≡ Some bytes
-      → Contains (file.could file.last x) bytes
   pub stays_could : (x : ℕ) (bytes other : List ℕ) → file.leaves file.last x ≡ Some bytes
       → Contains (file.could file.last x) other → other ≡ bytes
   pub still : (t : ℕ) → file.last ≤ t → (x : ℕ)

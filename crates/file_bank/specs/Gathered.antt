@@ -3,13 +3,13 @@ use Rattle.std.specs.Prelude.{◌≡◌, ◌⊎◌, ℕ, ◌≤◌, Bool, true, 
 use Rattle.bank_trait.specs.Causes.{counted}
 use Rattle.bank_trait.specs.declared.Failed.{Failed}
 use Rattle.file_bank.specs.BlockFile.{Contents}
-use Rattle.file_bank.specs.KeptRow.{row_of}
+use Rattle.file_bank.specs.KeptRow.{sectors_kept}
 use Rattle.file_bank.specs.Row.{KeptSector, by_moment, with_row}
 use Rattle.file_bank.specs.declared.gathered.Gathered.{Gathered}
 
 -- the file with what is kept over it
 abbrev pub told_of : {F : Type 0} {b : _} → (F → Contents) → Gathered F b → Contents
-told_of contents held = by_moment held.last (with_row (contents held.file) held.kept.first (row_of held.kept))
+told_of contents held = by_moment held.last (with_row (contents held.file) held.kept.first (sectors_kept held.kept))
 
 -- how often a call has failed
 abbrev pub gathered_faults : {F : Type 0} {b : _} → Gathered F b → ℕ
@@ -25,7 +25,7 @@ is_stuck held = held.stuck
 
 -- the sectors that were not handed over yet, each with the moment of its write
 abbrev pub not_handed_over : {F : Type 0} {b : _} → Gathered F b → List KeptSector
-not_handed_over held = row_of held.kept
+not_handed_over held = sectors_kept held.kept
 
 -- Nothing is left to be handed over of a file, or it could not be opened.
 abbrev pub KeepsNone : {F : Type 0} {b : _} → Option (Gathered F b) → Type 0

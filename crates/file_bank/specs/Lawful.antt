@@ -12,7 +12,6 @@ none_some bytes is = cc
 pub untold_lawful : (bytes : ℕ) → LawfulFile (untold bytes)
 untold_lawful bytes = record {
   stays_read = λ x b is. absurd (none_some b is);
-  reads_could = λ x b is. absurd (none_some b is);
   stays_could = λ x b other is has. absurd (none_some b is);
   still = λ t later x. (refl, refl);
   whole = λ x b is. absurd (none_some b is);
@@ -34,9 +33,6 @@ pub joined_lawful : (devices sectors : ℕ) (files : ℕ → Contents) (faults :
 joined_lawful devices sectors files faults clock laws paced = record {
   stays_read = λ d x bytes is.
       (laws d).stays_read x bytes (sym (((laws d).still clock (paced d) x).0) ∙ is);
-  reads_could = λ d x bytes is.
-      subst (λ (l : List (List ℕ)). Contains l bytes) (sym (((laws d).still clock (paced d) x).1))
-      ((laws d).reads_could x bytes is);
   stays_could = λ d x bytes other is has.
       (laws d).stays_could x bytes other (sym (((laws d).still clock (paced d) x).0) ∙ is)
       (subst (λ (l : List (List ℕ)). Contains l other) (((laws d).still clock (paced d) x).1) has);

@@ -35,14 +35,14 @@ replay_still last t held (call ∷ calls) by later =
     ∙ replay_still last t (after_call held call) calls (by_tail last call calls by) later
     ∙ sym (ap (λ (b : Bool). replayed_to last (if b then held else after_call held call) calls) came_first)
 
--- the parts of the law, of what a record says
+-- the laws, of what a record says: what is read of it is one of what the sector could hold, too
 record IsLawfulRecord (held : FileHeld) : Type 0 where
   stays_read : (x : ℕ) (bytes : List ℕ) → held.stays x ≡ Some bytes → held.reads x ≡ Some bytes
   reads_could : (x : ℕ) (bytes : List ℕ) → held.reads x ≡ Some bytes → Contains (held.could x) bytes
   stays_could : (x : ℕ) (bytes other : List ℕ) → held.stays x ≡ Some bytes
       → Contains (held.could x) other → other ≡ bytes
 
-in_list : (o : Option (List ℕ)) (bytes : List ℕ) → o ≡ Some bytes
+pub in_list : (o : Option (List ℕ)) (bytes : List ℕ) → o ≡ Some bytes
     → Contains (option_to_list o) bytes
 in_list None bytes is = absurd (cc)
 in_list (Some b) bytes is = (0, omega arith, cc)
@@ -114,6 +114,13 @@ rest_lawful first = record {
   stays_could = λ x bytes other is has. of_list (slice_get first x) bytes other is has;
 }
 
+-- What is read of a file in memory is one of what the sector could hold.
+pub record_could : (first present : List (List ℕ)) (calls : List Call) (last : ℕ)
+    → LeadsToSectors first last calls present → (x : ℕ) (bytes : List ℕ) → slice_get present x ≡ Some bytes
+    → Contains ((contents_of first present calls last).could last x) bytes
+record_could first present calls last leads x bytes is =
+    (replay_lawful last (all_certain first) calls (rest_lawful first)).reads_could x bytes (leads x ∙ is)
+
 pub lawful : (first present : List (List ℕ)) (calls : List Call) (last : ℕ) → AllBy last calls
     → LeadsToSectors first last calls present
     → ((x : ℕ) (bytes : List ℕ) → slice_get present x ≡ Some bytes → length bytes ≡ 512)
@@ -122,7 +129,6 @@ lawful first present calls last by leads whole =
     let law = replay_lawful last (all_certain first) calls (rest_lawful first) in
     record {
       stays_read = λ x bytes is. sym (leads x) ∙ law.stays_read x bytes is;
-      reads_could = λ x bytes is. law.reads_could x bytes (leads x ∙ is);
       stays_could = law.stays_could;
       still = λ t later x. (
         ap (λ (h : FileHeld). h.stays x) (replay_still last t (all_certain first) calls by later),

@@ -71,9 +71,9 @@ pub record TellsSame (old new : Contents) : Type 0 where
   pub could : (t x : ℕ) → new.could t x ≡ old.could t x
 
 -- Each was written later than the one before it, and the first of them later than that moment.
-abbrev pub IsRising : ℕ → List KeptSector → Type 0
-IsRising last [] = ⊤
-IsRising last (kept ∷ row) = (last < kept.moment) × IsRising kept.moment row
+abbrev pub HasRisingMoments : ℕ → List KeptSector → Type 0
+HasRisingMoments last [] = ⊤
+HasRisingMoments last (kept ∷ row) = (last < kept.moment) × HasRisingMoments kept.moment row
 
 -- None was written later.
 abbrev pub AllKeptBy : ℕ → List KeptSector → Type 0

@@ -57,11 +57,6 @@ module _ (file : Contents) (x : ℕ) (kept : KeptSector) where
 none_is : (o : Option (List ℕ)) (bytes : List ℕ) → o ≡ None → o ≡ Some bytes → ⊥
 none_is o bytes none is = cc
 
-read_told : (o : Option (List ℕ)) (new bytes : List ℕ) (others : List (List ℕ)) → told_as new o ≡ Some bytes
-    → Contains (could_too new o others) bytes
-read_told None new bytes others is = absurd (cc)
-read_told (Some was) new bytes others is = (0, omega arith, cc)
-
 told_whole : (o : Option (List ℕ)) (new bytes : List ℕ) → length new ≡ 512 → told_as new o ≡ Some bytes
     → length bytes ≡ 512
 told_whole None new bytes whole is = absurd (cc)
@@ -73,7 +68,6 @@ pub sector_lawful : (file : Contents) (x : ℕ) (kept : KeptSector) → LawfulFi
     → LawfulFile (with_sector file x kept)
 sector_lawful file x kept laws long = record {
   stays_read = λ y bytes is. stays y bytes is (cases_eq y x);
-  reads_could = λ y bytes is. reads y bytes is (cases_eq y x);
   stays_could = λ y bytes other is has. could y bytes other is has (cases_eq y x);
   still = λ t later y. still t later y (cases_eq y x);
   whole = λ y bytes is. whole y bytes is (cases_eq y x);
@@ -95,16 +89,6 @@ sector_lawful file x kept laws long = record {
     stays y bytes is (inr other) = read_other file x kept y other
         ∙ laws.stays_read y bytes (sym ((laws.still new.last later_too y).0)
         ∙ sym (left_other file x kept y other new.last) ∙ is)
-
-    reads : (y : ℕ) (bytes : List ℕ) → new.reads y ≡ Some bytes → (y ≡ x) ⊎ (y ≢ x)
-        → Contains (new.could new.last y) bytes
-    reads y bytes is (inl here) = subst (λ (k : ℕ). Contains (new.could new.last k) bytes) (sym here)
-        (subst (λ (l : List (List ℕ)). Contains l bytes) (sym (could_after file x kept new.last came))
-        (read_told (file.reads x) kept.bytes bytes _ (sym (read_here file x kept)
-        ∙ subst (λ (k : ℕ). new.reads k ≡ Some bytes) here is)))
-    reads y bytes is (inr other) = subst (λ (l : List (List ℕ)). Contains l bytes)
-        (sym ((laws.still new.last later_too y).1) ∙ sym (could_other file x kept y other new.last))
-        (laws.reads_could y bytes (sym (read_other file x kept y other) ∙ is))
 
     could : (y : ℕ) (bytes other_bytes : List ℕ) → new.leaves new.last y ≡ Some bytes
         → Contains (new.could new.last y) other_bytes → (y ≡ x) ⊎ (y ≢ x) → other_bytes ≡ bytes
@@ -158,8 +142,6 @@ pub by_moment_lawful : (file : Contents) (moment : ℕ) → LawfulFile file → 
     → LawfulFile (by_moment moment file)
 by_moment_lawful file moment laws before = record {
   stays_read = λ x bytes is. laws.stays_read x bytes (sym ((laws.still moment before x).0) ∙ is);
-  reads_could = λ x bytes is. subst (λ (l : List (List ℕ)). Contains l bytes) (sym ((laws.still moment before x).1))
-      (laws.reads_could x bytes is);
   stays_could = λ x bytes other is has. laws.stays_could x bytes other (sym ((laws.still moment before x).0) ∙ is)
       (subst (λ (l : List (List ℕ)). Contains l other) ((laws.still moment before x).1) has);
   still = λ t later x. (

@@ -1,12 +1,12 @@
 -- What a gathered file keeps of its row has one proof at most, so it may be a ghost field.
 use Rattle.std.specs.Prelude.{ℕ, ◌∷◌, [], List}
 use Rattle.std.proofs.Props.{props}
-use Rattle.file_bank.specs.Row.{KeptSector, IsRising, AllKeptBy, AllWhole}
+use Rattle.file_bank.specs.Row.{KeptSector, HasRisingMoments, AllKeptBy, AllWhole}
 
-pub rising_prop : (last : ℕ) (row : List KeptSector) → IsProp (IsRising last row)
+pub rising_prop : (last : ℕ) (row : List KeptSector) → IsProp (HasRisingMoments last row)
 rising_prop last [] = Prim.hlevel props
 rising_prop last (kept ∷ row) = let rest : IsProp
-    (IsRising kept.moment row) = rising_prop kept.moment row in Prim.hlevel (rest, props)
+    (HasRisingMoments kept.moment row) = rising_prop kept.moment row in Prim.hlevel (rest, props)
 
 pub kept_by_prop : (last : ℕ) (row : List KeptSector) → IsProp (AllKeptBy last row)
 kept_by_prop last [] = Prim.hlevel props

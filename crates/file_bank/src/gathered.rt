@@ -2,8 +2,8 @@
 ghost use Rattle.std.specs.Prelude.{◌≡◌, ◌+◌, ◌*◌, ◌/◌, ◌%◌, ◌^◌, ◌<◌, ◌≤◌, ℕ, List, [], length, false, true};
 ghost use Rattle.std.specs.Prelude.{OnOk, OnErr, IfOk};
 ghost use Rattle.file_bank.specs.BlockFile.{CountsFault, GivesBytes, Written, Settled};
-ghost use Rattle.file_bank.specs.KeptRow.{row_of};
-ghost use Rattle.file_bank.specs.Row.{AllKeptBy, IsRising, TellsSame};
+ghost use Rattle.file_bank.specs.KeptRow.{sectors_kept};
+ghost use Rattle.file_bank.specs.Row.{AllKeptBy, HasRisingMoments, TellsSame};
 ghost use Rattle.file_bank.specs.RowProps.{kept_by_prop, rising_prop};
 
 use crate::block_file::{BlockFile, ReadFault, count_call};
@@ -24,9 +24,10 @@ pub struct Gathered<F: RowFile> {
     stuck: bool,
     faults: u64,
     ghost paced: { (F.contents file).last ≤ last },
-    ghost by: { AllKeptBy last (row_of kept) } by { kept_by_prop last (row_of kept) },
-    ghost rising: { stuck ≡ false → IsRising (F.contents file).last (row_of kept) } by { λ one other i free.
-        rising_prop (F.contents file).last (row_of kept) (one free) (other free) i },
+    ghost by: { AllKeptBy last (sectors_kept kept) } by { kept_by_prop last (sectors_kept kept) },
+    ghost rising: { stuck ≡ false
+        → HasRisingMoments (F.contents file).last (sectors_kept kept) } by { λ one other i free.
+            rising_prop (F.contents file).last (sectors_kept kept) (one free) (other free) i },
     ghost inside: { 512 * (kept.first + length kept.sectors.items) ≤ (F.contents file).length },
 }
 
@@ -61,7 +62,7 @@ impl<F: RowFile> Gathered<F> {
         ensures same { TellsSame (told_of F.contents self.old) (told_of F.contents self.new) }
         ensures last { self.new.last ≡ self.old.last }
         ensures faults { self.new.faults ≡ self.old.faults }
-        ensures emptied { OnOk result (row_of self.new.kept ≡ []) }
+        ensures emptied { OnOk result (sectors_kept self.new.kept ≡ []) }
         ensures free { OnOk result (self.new.stuck ≡ false) }
         ensures stuck { OnErr result (self.new.stuck ≡ true) }
         ensures below { CountsFault (F.faults self.old.file) (F.faults self.new.file) result }
@@ -151,7 +152,7 @@ impl<F: RowFile> Gathered<F> {
         ensures faults { self.new.faults ≡ self.old.faults }
         ensures below { FailsBelow self.old.stuck self.new.stuck (F.faults self.old.file)
             (F.faults self.new.file) result }
-        ensures emptied { OnOk result (row_of self.new.kept ≡ []) }
+        ensures emptied { OnOk result (sectors_kept self.new.kept ≡ []) }
     {
         if self.stuck {
             return Err(Failed);
@@ -203,7 +204,7 @@ impl<F: RowFile> BlockFile for Gathered<F> {
 
     ghost faults = { gathered_faults };
 
-    ghost lawful = { λ held. gathered_lawful (F.contents held.file) held.kept.first (row_of held.kept) held.last
+    ghost lawful = { λ held. gathered_lawful (F.contents held.file) held.kept.first (sectors_kept held.kept) held.last
         (F.lawful held.file) held.kept.whole held.paced held.by };
 
     fn length(&self) -> u64 {

@@ -36,11 +36,11 @@ fn drop_first<T: Drop>(list: &mut Vec<T>, count: usize)
 }
 
 impl KeptRow {
-    ghost use Rattle.file_bank.specs.KeptRow.{row_of};
+    ghost use Rattle.file_bank.specs.KeptRow.{sectors_kept};
 
     pub fn new(alloc: Global) -> Result<KeptRow, AllocError>
         ensures len { IfOk result (λ kept. length kept.sectors.items ≡ 0) }
-        ensures row { IfOk result (λ kept. row_of kept ≡ []) }
+        ensures row { IfOk result (λ kept. sectors_kept kept ≡ []) }
         ensures first { IfOk result (λ kept. kept.first ≡ 0) }
     {
         Ok(KeptRow {
@@ -87,7 +87,7 @@ impl KeptRow {
         requires fits { self.old.first + length self.old.sectors.items < 2 ^ 55 }
         ensures first { self.new.first ≡ self.old.first }
         ensures len { length self.new.sectors.items ≡ length self.old.sectors.items + 1 }
-        ensures row { row_of self.new ≡ row_of self.old ++ kept_sector moment bytes.now ∷ [] }
+        ensures row { sectors_kept self.new ≡ sectors_kept self.old ++ kept_sector moment bytes.now ∷ [] }
     {
         self.moments.push_reserved(moment);
         self.sectors.push_reserved(*bytes);
@@ -98,7 +98,7 @@ impl KeptRow {
         requires { count ≤ length self.old.sectors.items }
         ensures first { self.new.first ≡ self.old.first + count }
         ensures len { length self.new.sectors.items + count ≡ length self.old.sectors.items }
-        ensures row { row_of self.new ≡ drop count (row_of self.old) }
+        ensures row { sectors_kept self.new ≡ drop count (sectors_kept self.old) }
     {
         drop_first(&mut self.moments, count);
         drop_first(&mut self.sectors, count);
@@ -109,7 +109,7 @@ impl KeptRow {
     pub fn restart_at(&mut self, sector: u64)
         requires { sector < 2 ^ 55 }
         ensures first { self.new.first ≡ sector }
-        ensures row { row_of self.new ≡ [] }
+        ensures row { sectors_kept self.new ≡ [] }
         ensures len { length self.new.sectors.items ≡ 0 }
     {
         self.moments.clear();

@@ -1,7 +1,7 @@
 // A file that takes and gives several sectors side by side in one call.
 ghost use Rattle.std.specs.Prelude.{◌≡◌, ◌+◌, ◌*◌, ◌/◌, ◌%◌, ◌<◌, ◌≤◌, ℕ, length, IfOk, OnOk};
 ghost use Rattle.file_bank.specs.BlockFile.{Contents, CountsFault, GivesBytes, Settled, LawfulFile};
-ghost use Rattle.file_bank.specs.Row.{GivesRow, HandedOver, IsRising, kept_row};
+ghost use Rattle.file_bank.specs.Row.{GivesRow, HandedOver, HasRisingMoments, kept_row};
 
 use crate::block_file::ReadFault;
 use bank_trait::Failed;
@@ -55,7 +55,7 @@ pub trait RowFile {
         requires most { length row.now ≤ 64 }
         requires paired { length moments.now ≡ length row.now }
         requires inside { offset + 512 * length row.now ≤ (contents self.old).length }
-        requires rising { IsRising (contents self.old).last (kept_row moments.now row.now) }
+        requires rising { HasRisingMoments (contents self.old).last (kept_row moments.now row.now) }
         ensures handed { HandedOver (contents self.old) (contents self.new) (offset / 512)
             (kept_row moments.now row.now) result }
         ensures counts { CountsFault (faults self.old) (faults self.new) result };

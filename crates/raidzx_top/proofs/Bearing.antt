@@ -84,9 +84,12 @@ may_bear setting first later disk silent borne failed may bears = record {
         (bears.votes image might) (may.may.keeps image might);
     shape = may.may.shape;
     tells = may.may.tells;
-    pages = λ image holds. record {
-      page = λ kept shower giver uber listed shows inside pool_is group digest.
-          (may.may.pages image holds).page kept shower giver uber listed shows inside pool_is group digest;
+    no_other = record {
+      ubers = may.may.no_other.ubers;
+      pages = λ image holds. record {
+        page = λ kept shower giver uber listed shows inside pool_is group digest.
+            (may.may.no_other.pages image holds).page kept shower giver uber listed shows inside pool_is group digest;
+      };
     };
     parity = may.may.parity;
   };

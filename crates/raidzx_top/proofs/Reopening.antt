@@ -205,7 +205,7 @@ module _ (script : Script) (old new : Disk) (items : List Item) (out : ℕ) (run
       keeps = keeps.kept.keeps;
       shape = may.may.shape ∙ sym (same_shape old new onward);
       tells = told.tells;
-      pages = told.pages;
+      no_other = told.no_other;
       parity = λ kept listed. parity_is kept listed
           ∙ sym (parity_is keeps.kept.last (contains_head keeps.kept.last keeps.kept.begun));
     };
@@ -260,7 +260,7 @@ module _ (setting : Setting) (first : Kept) (later : List Kept) (old : Disk) (ma
           later = now.later;
           among = row_among (record { before = now.before; after = now.after; row = now.row });
           may = goes_on_begins setting ((first ∷ later) ++ joined) first.uber.parity new now
-              (may.may.shape ∙ sym (same_shape old new onward)) may.excepted told.tells told.pages joined_parity
+              (may.may.shape ∙ sym (same_shape old new onward)) may.excepted told.tells told.no_other joined_parity
               (λ kept id content listed. joined_bytes kept listed id content);
         };
         any_moment = λ moment image from until left.

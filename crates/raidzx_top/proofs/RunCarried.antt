@@ -19,7 +19,7 @@ use Rattle.core_open.specs.Causes.{IsShownChoice, AreTooMany}
 use Rattle.core_open.specs.Failing.{HaveFailed}
 use Rattle.core_open.specs.Holds.{HoldsImage, shape_of}
 use Rattle.core_open.specs.declared.why.OpenWhy.TheVariants as reason
-use Rattle.core_open.proofs.Ends.{present_held}
+use Rattle.core_open.proofs.Present.{present_held}
 use Rattle.core_open.proofs.Unhindered.{caused}
 use Rattle.core_open.proofs.Banks.{count_grows}
 use Rattle.client_script.specs.Script.{IsAllowed, handed_by}

@@ -16,10 +16,11 @@ use Rattle.core_state.specs.Legal.{CallAt}
 use Rattle.core_state.specs.Journal.{IsComplete}
 use Rattle.core_state.specs.Keeps.{Kept, Setting}
 use Rattle.core_state.specs.Shown.{Shows}
-use Rattle.core_state.specs.Collision.{BankKeeps, HasNoOtherPage, MightStand}
+use Rattle.core_state.specs.Collision.{BankKeeps, MightStand}
 use Rattle.core_state.specs.Create.{IsCreated, first_kept, rows_for}
 use Rattle.core_open.specs.Causes.{AreTooMany}
 use Rattle.core_open.specs.Opens.{IsUnhindered, IsWithinBelow, LeavesOthers}
+use Rattle.core_open.specs.Holds.{HoldsNoOther}
 use Rattle.core_open.specs.Opening.{CutsOpening, MayBegin}
 use Rattle.client_script.specs.Copier.{copier}
 use Rattle.client_script.specs.Script.{Script, IsScript, asked_by}
@@ -62,15 +63,14 @@ NoneShowsFrom call width = (image : Image) (device : ℕ) (uber : Uber) → widt
     → ⊥
 
 -- what `create` leaves where the bank tells what it holds: a pool of one group, which the bank keeps
--- where no other device shows an uberblock, and with which a run may begin, where no page on the bank is by chance that
--- group's
+-- where no other device shows an uberblock, and with which a run may begin, where no uberblock or page on the bank is
+-- another's by chance
 pub record CreatePromises (call : TopCall) (parity width id : ℕ) : Type 0 where
   pub made : IsCreated (first_uber id parity width (rows_for call.old.sectors)) call.new
   pub keeps : (setting : Setting) → IsNewSetting call parity width id setting → NoneShowsFrom call width
       → BankKeeps setting (first_kept id parity width call.old.sectors) [] call.new
   pub begins : (setting : Setting) → IsNewSetting call parity width id setting → setting.excepted ≡ []
-      → NoneShowsFrom call width → ((image : Image) → HoldsImage call.new image
-      → HasNoOtherPage setting (first_kept id parity width call.old.sectors ∷ []) image)
+      → NoneShowsFrom call width → HoldsNoOther setting (first_kept id parity width call.old.sectors ∷ []) call.new
       → MayBegin setting (first_kept id parity width call.old.sectors) [] call.new
 
 -- what a call promises that asks for this pool

@@ -1,26 +1,24 @@
 -- What the next run or replay reads back of one that was stopped.
 use Rattle.std.proofs.Common.{inl, inr}
-use Rattle.std.specs.Prelude.{◌≡◌, ◌≢◌, ◌⊎◌, ℕ, ◌+◌, ◌≤◌, List, ◌∷◌, ◌++◌, length, Contains, ⊤}
+use Rattle.std.specs.Prelude.{◌≡◌, ◌⊎◌, ℕ, ◌+◌, ◌≤◌, List, ◌∷◌, ◌++◌, length, Contains, ⊤}
 use Rattle.bank_trait.specs.Disk.{Image, Disk, Unchanged}
 use Rattle.bank_trait.specs.Regions.{Tells}
 use Rattle.uberblock_ring.specs.Devices.{IsWithin}
-use Rattle.core_state.specs.declared.answer.Answer.TheVariants as answer
-use Rattle.core_state.specs.declared.item.Entry.{Entry}
 use Rattle.core_state.specs.declared.item.Item.{Item}
 use Rattle.core_state.specs.Map.{Map, PutBytes}
-use Rattle.core_state.specs.Legal.{CallAt}
 use Rattle.core_state.specs.Journal.{Calls, IsLegalJournal}
 use Rattle.core_state.specs.Keeps.{Kept, Setting, ReachesNoFurther}
 use Rattle.core_state.specs.Moment.{Groups}
 use Rattle.core_state.specs.Collision.{MightStand, HasNoOtherPage}
 use Rattle.core_open.specs.Adding.{MayBeAdded, setting_on}
-use Rattle.core_open.specs.Holds.{HoldsImage, shape_of}
+use Rattle.core_open.specs.Holds.{HoldsNoOther, shape_of}
 use Rattle.core_open.specs.Opens.{AddsOne, IsWithinBelow}
 use Rattle.client_script.specs.Script.{Script, asked_by, handed_by}
 use Rattle.core_open.specs.Opening.{CutsOpening, MayBegin}
 use Rattle.core_open.specs.Stopped.{IsImageOf, HoldsAlone}
 use Rattle.journal_law.specs.Moments.{KeepsLast, KeepsUntil}
 use Rattle.schedule.specs.Moments.{KeepsTurnByTurn}
+use Rattle.schedule.specs.Recorded.{NoneIsDamaged}
 use Rattle.schedule.specs.WholeRun.{HasRun}
 
 -- A crash at this moment might have left the image on the bank, and no uberblock in it is valid by chance.
@@ -35,10 +33,10 @@ pub record IsLeftOn (setting : Setting) (groups : List Kept) (image : Image) (di
   pub alone : HoldsAlone disk image
   pub pages : HasNoOtherPage setting groups image
 
--- The bank tells what it holds, and no page in that is by chance one of these groups'.
+-- The bank tells what it holds, and no uberblock or page in that is another's by chance.
 pub record IsToldOn (setting : Setting) (groups : List Kept) (disk : Disk) : Type 0 where
   pub tells : Tells disk
-  pub pages : (image : Image) → HoldsImage disk image → HasNoOtherPage setting groups image
+  pub no_other : HoldsNoOther setting groups disk
 
 -- A run that may begin on the bank may begin on one that begins with its devices, and has further ones or more sectors.
 abbrev pub MayAdd : Disk → Type 0
@@ -59,7 +57,7 @@ pub record ReadsBack (groups : List Kept) (script : Script) (items : List Item) 
   pub chosen : Kept
   pub known : Contains groups chosen
   pub legal : IsLegalJournal (asked_by script) (handed_by script) chosen.map items
-  pub sound : (index : ℕ) (entry : Entry) → CallAt items index entry → entry.answer ≢ answer.Damaged
+  pub sound : NoneIsDamaged items
 
 -- A bank that holds the image alone may be opened with some of these groups, and each script that is carried out on
 -- it reads back one of them, where the silent devices of the pool, which reached so far when the image was left and no

@@ -73,7 +73,6 @@ lawful_before {old} {new} same lawful =
     let could : (d x : ℕ) → new.could new.clock d x ≡ old.could old.clock d x = λ d x. search arith in
     record {
       stays_read = search (leaves, arith);
-      reads_could = search (could, arith);
       stays_could = λ d x bytes other is has. lawful.stays_could d x bytes other (leaves d x ∙ is) (search could);
     }
 

@@ -1,7 +1,7 @@
 use Rattle.std.proofs.Common.{◌≡◌, ◌+◌, ◌*◌, ◌/◌, ◌<◌, ◌≤◌, ℕ, ◌∙◌, [], length, drop, false, subst, List, sym, refl}
 use Rattle.std.proofs.Common.{arith, get_or}
 use Rattle.file_bank.specs.MemFile.{file_of}
-use Rattle.file_bank.specs.Row.{KeptSector, TellsSame, IsRising, kept_row, kept_sector, with_sector}
+use Rattle.file_bank.specs.Row.{KeptSector, TellsSame, HasRisingMoments, kept_row, kept_sector, with_sector}
 use Rattle.std.specs.Result.{is_err}
 use Rattle.file_bank.proofs.KeptRows.{kept_at, row_long}
 use Rattle.file_bank.proofs.MemRows.{of_err, of_ok, stopped_at, row_step, row_done, rising_step, by_at, well}
@@ -58,7 +58,7 @@ loop-index-preserved c =
       same = same;
       length = same_length (file_of c.args.self.now) (file_of c.write_at.new.self) (c.args.offset / 512)
           (c.args.offset / 512 + (c.loop-index.index + 1)) row (drop (c.loop-index.index + 1) row) same;
-      rising = subst (λ (m : ℕ). IsRising m (drop (c.loop-index.index + 1) row)) (sym last)
+      rising = subst (λ (m : ℕ). HasRisingMoments m (drop (c.loop-index.index + 1) row)) (sym last)
           (rising_step _ _ _ kept below at c.loop-index.invariant.rising).1;
       last = λ moment le by. omega (arith, last, by_at moment _ row kept below at by);
       faults = well _ _ _ went c.write_at.ensures.counts ∙ c.loop-index.invariant.faults;
