@@ -20,7 +20,7 @@ use crate::stopped::Stopped;
 use bank_trait::Bank;
 use block_record::IndexEntry;
 use std::alloc::{AllocError, Global};
-use uberblock_ring::{DeviceSet, Uber};
+use uberblock_ring::{DeviceSet, Uber, are_alike};
 use width_map::FIRST_DATA_SECTOR;
 
 /// The index of an uberblock, and the first device that gives its page.
@@ -132,45 +132,6 @@ impl Candidates {
             None => false,
         }
     }
-}
-
-/// Whether they differ in nothing but their out sets.
-fn are_alike(one: &Uber, other: &Uber) -> bool
-    ensures { IsTrue result ↔ AreAlike one.now other.now }
-{
-    if one.pool() != other.pool() || one.group() != other.group() {
-        return false;
-    }
-    have_same_page(one, other) && have_same_widths(one, other)
-}
-
-fn have_same_page(one: &Uber, other: &Uber) -> bool
-    ensures { IsTrue result ↔ ((one.now.area ≡ other.now.area)
-        × (one.now.count ≡ other.now.count) × (one.now.digest ≡ other.now.digest)) }
-{
-    one.area() == other.area() && one.count() == other.count() && one.digest() == other.digest()
-}
-
-fn have_same_widths(one: &Uber, other: &Uber) -> bool
-    ensures { IsTrue result ↔ ((one.now.parity ≡ other.now.parity)
-        × (one.now.reflow ≡ other.now.reflow) × (one.now.births ≡ other.now.births)) }
-{
-    if one.parity() != other.parity() {
-        return false;
-    }
-    have_same_reflow(one, other) && have_same_births(one, other)
-}
-
-fn have_same_reflow(one: &Uber, other: &Uber) -> bool
-    ensures { IsTrue result ↔ (one.now.reflow ≡ other.now.reflow) }
-{
-    one.reflow() == other.reflow()
-}
-
-fn have_same_births(one: &Uber, other: &Uber) -> bool
-    ensures { IsTrue result ↔ (one.now.births ≡ other.now.births) }
-{
-    one.births().as_slice() == other.births().as_slice()
 }
 
 /// The index of an uberblock: that of the first page that a device gives and which fits. Silent

@@ -6,7 +6,7 @@ ghost use Rattle.uberblock_ring.specs.Valid.{AreAlike};
 ghost use Rattle.raidzx.specs.Places.{AreListed, IsElsewhereAt, IsListedBy, IsListedOut, ShowsElsewhere};
 
 use crate::sightings::{LOOKED_AT, Sighting};
-use uberblock_ring::{DeviceSet, Uber};
+use uberblock_ring::{DeviceSet, Uber, are_alike};
 
 /// Whether the image at this place shows the pool under another number.
 pub fn stands_wrong(sightings: &[Sighting], pool: u64, place: u32) -> bool
@@ -87,45 +87,6 @@ fn is_listed_by(sighting: &Sighting, uber: &Uber, place: u32) -> bool
     sighting.uber.out().has(place)
         && sighting.number == sighting.place
         && are_alike(&sighting.uber, uber)
-}
-
-/// Whether they differ in nothing but the disks that they list as out.
-fn are_alike(one: &Uber, other: &Uber) -> bool
-    ensures { IsTrue result ↔ AreAlike one.now other.now }
-{
-    if one.pool() != other.pool() || one.group() != other.group() {
-        return false;
-    }
-    have_same_page(one, other) && have_same_widths(one, other)
-}
-
-fn have_same_page(one: &Uber, other: &Uber) -> bool
-    ensures { IsTrue result ↔ ((one.now.area ≡ other.now.area)
-        × (one.now.count ≡ other.now.count) × (one.now.digest ≡ other.now.digest)) }
-{
-    one.area() == other.area() && one.count() == other.count() && one.digest() == other.digest()
-}
-
-fn have_same_widths(one: &Uber, other: &Uber) -> bool
-    ensures { IsTrue result ↔ ((one.now.parity ≡ other.now.parity)
-        × (one.now.reflow ≡ other.now.reflow) × (one.now.births ≡ other.now.births)) }
-{
-    if one.parity() != other.parity() {
-        return false;
-    }
-    have_same_reflow(one, other) && have_same_births(one, other)
-}
-
-fn have_same_reflow(one: &Uber, other: &Uber) -> bool
-    ensures { IsTrue result ↔ (one.now.reflow ≡ other.now.reflow) }
-{
-    one.reflow() == other.reflow()
-}
-
-fn have_same_births(one: &Uber, other: &Uber) -> bool
-    ensures { IsTrue result ↔ (one.now.births ≡ other.now.births) }
-{
-    one.births().as_slice() == other.births().as_slice()
 }
 
 /// The places at which a test says so.

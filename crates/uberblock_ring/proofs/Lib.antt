@@ -1,4 +1,5 @@
 pub mod Rows
+pub mod SameBirths
 pub mod OneSpelling
 pub mod Digest
 pub mod DeviceSets

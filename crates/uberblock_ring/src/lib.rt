@@ -6,6 +6,7 @@
 //! `block_record`.
 #![tactic(auto)]
 
+mod alike;
 mod births;
 mod choice;
 mod decode;
@@ -17,6 +18,7 @@ mod rules;
 mod shown;
 mod uber;
 
+pub use alike::are_alike;
 pub use choice::choose;
 pub use device_set::DeviceSet;
 pub use ring::{RING_SLOTS, area_sector, slot};

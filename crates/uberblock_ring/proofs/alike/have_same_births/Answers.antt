@@ -1,7 +1,7 @@
 use Rattle.std.proofs.Common.{◌≡◌, ◌∙◌, sym}
 use Rattle.std.proofs.lemmas.Slice.Eq.{slice_eq-Decides}
-use Rattle.core_open.proofs.SameBirths.{same_birth}
-use Rattle.raidzx.proofs.places.have_same_births.Goals as goal
+use Rattle.uberblock_ring.proofs.SameBirths.{same_birth}
+use Rattle.uberblock_ring.proofs.alike.have_same_births.Goals as goal
 
 pub returns : goal.returns
 returns c =
