@@ -11,4 +11,5 @@ pub mod Claimed
 pub mod Opened
 pub mod UnderWay
 pub mod Usage
+pub mod KeptPage
 pub mod Sizes

@@ -4,5 +4,6 @@ pub mod Blocks
 pub mod Puts
 pub mod Kept
 pub mod Growing
+pub mod IndexPage
 pub mod Loading
 pub mod Usage

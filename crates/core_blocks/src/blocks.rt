@@ -14,12 +14,13 @@ ghost use Rattle.core_state.specs.Index.{AreApart, IsFitting, block_end};
 ghost use Rattle.core_blocks.specs.Blocks.{AreInStep, AreUnderWay, HasLayouts, IsListed, IsStanding, IsUnderWay};
 ghost use Rattle.core_blocks.specs.Blocks.{range_of, put_run};
 ghost use Rattle.core_blocks.specs.Growing.{grown_by};
+ghost use Rattle.core_blocks.specs.IndexPage.{IsPageOf};
 ghost use Rattle.core_blocks.specs.declared.range.PutRange.{PutRange};
 ghost use Rattle.core_blocks.specs.Puts.{BeginsPut, HoldsBack, IsAsBefore, IsPutCause, IsRangeFor, sectors_taken};
 ghost use Rattle.core_blocks.specs.Kept.{NoneFree, SparesAll};
 ghost use Rattle.core_blocks.specs.Loading.{IsTakenBy};
 
-use crate::{PutRange, PutRefused, loading, sectors};
+use crate::{IndexPage, PutRange, PutRefused, loading, sectors};
 use block_record::IndexEntry;
 use block_table::Table;
 use range_locks::Locks;
@@ -28,17 +29,21 @@ use std::alloc::{AllocError, Global};
 use std::marker::Model;
 use width_map::Births;
 
-/// The blocks by their ids, and the sectors that they and the puts under way take.
+/// The blocks by their ids, and the sectors that they and the puts under way take. The index page is
+/// kept from when it is asked for until a block comes or goes.
 #[derive(Drop)]
 pub struct Blocks {
     table: Table,
     space: Space,
     parity: u32,
     births: Births,
+    page: Option<IndexPage>,
 }
 
 impl Model for Blocks {
+    ghost use Rattle.std.specs.Prelude.{IfSome};
     ghost use Rattle.core_blocks.specs.Blocks.{Blocks as BlocksOf, AreInStep};
+    ghost use Rattle.core_blocks.specs.IndexPage.{IsPageOf};
 
     ghost Value = { BlocksOf };
 
@@ -54,7 +59,7 @@ impl Model for Blocks {
       births = blocks.births;
       table = blocks.table;
       space = blocks.space;
-    }) };
+    }) × IfSome blocks.page (IsPageOf blocks.table.entries) };
 }
 
 impl Blocks {
@@ -88,6 +93,7 @@ impl Blocks {
             space,
             parity,
             births,
+            page: None,
         })
     }
 
@@ -129,6 +135,21 @@ impl Blocks {
         ensures kept { (past : ℕ) → NoneFree self.now past self.now.table.entries }
     {
         self.table.entries()
+    }
+
+    /// The index page of the next group. It is encoded and digested once, as long as no block comes
+    /// or goes.
+    pub fn page(&mut self, alloc: Global) -> Result<IndexPage, AllocError>
+        ensures page { IfOk result (IsPageOf self.old.table.entries) }
+        ensures same { self.new ≡ self.old }
+    {
+        let page = match self.page.take() {
+            Some(page) => page,
+            None => IndexPage::of(alloc, self.table.entries())?,
+        };
+        let copy = page.try_copy(alloc);
+        self.page = Some(page);
+        copy
     }
 
     /// Begins a put of so many bytes in this group: reserves its id, and takes the lowest run that
@@ -208,6 +229,7 @@ impl Blocks {
             → NoneFree self.old past kept → NoneFree self.new past kept }
     {
         let was = self.table.put(entry);
+        self.page = None;
         sectors::hold_back(&mut self.space, self.parity, &self.births, was, group);
         was
     }
@@ -251,6 +273,7 @@ impl Blocks {
             → NoneFree self.old past kept → NoneFree self.new past kept }
     {
         let gone = self.table.remove(id);
+        self.page = None;
         sectors::hold_back(&mut self.space, self.parity, &self.births, gone, group);
         gone
     }

@@ -9,6 +9,7 @@
 #![tactic(auto)]
 
 mod blocks;
+mod index_page;
 mod layouts;
 mod loading;
 mod range;
@@ -16,5 +17,6 @@ mod refused;
 mod sectors;
 
 pub use blocks::Blocks;
+pub use index_page::IndexPage;
 pub use range::PutRange;
 pub use refused::PutRefused;

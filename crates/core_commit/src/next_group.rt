@@ -9,7 +9,6 @@ ghost use Rattle.core_commit.specs.NextUber.{next_uber};
 
 use block_record::IndexEntry;
 use reflow_mark::Reflow;
-use sha2::{Digest, Sha256};
 use uberblock_ring::{DeviceSet, Uber};
 use width_map::Births;
 
@@ -27,15 +26,16 @@ fn births_behind(uber: &Uber, chosen: &Reflow) -> Births
     births
 }
 
-/// The uberblock of the group after this one at a chosen reflow, with this index and its page, in the other area.
+/// The uberblock of the group after this one at a chosen reflow, with this index and the digest of its page, in the
+/// other area.
 pub fn next_uber(
     uber: &Uber,
     chosen: &Reflow,
     entries: &[IndexEntry],
-    page: &[u8],
+    digest: &[u8; 32],
     out: DeviceSet,
 ) -> Uber
-    requires page { page.now ≡ index_page entries.now }
+    requires digest { digest.now ≡ sha256 (index_page entries.now) }
     requires few { length entries.now ≤ 512 }
     requires group { uber.now.group < max_group }
     requires right { IsRightUber uber.now }
@@ -46,7 +46,7 @@ pub fn next_uber(
     let mut next = *uber;
     next.set_group(uber.group() + 1);
     next.set_widths(*chosen, births_behind(uber, chosen));
-    next.set_index(1 - uber.area(), entries.len() as u32, &Sha256::digest(page));
+    next.set_index(1 - uber.area(), entries.len() as u32, digest);
     next.set_out(out);
     next
 }

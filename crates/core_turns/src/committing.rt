@@ -5,9 +5,9 @@ ghost use Rattle.range_locks.specs.Holds.{HasSectors, IsClear};
 ghost use Rattle.core_state.specs.Outs.{OnlyFailedGoOut};
 ghost use Rattle.core_state.specs.Committing.{point_of};
 ghost use Rattle.uberblock_ring.specs.Valid.{IsRightUber};
+ghost use Rattle.core_blocks.specs.Growing.{MayGrow};
 ghost use Rattle.core_open.specs.Answered.{blocks_behind};
 ghost use Rattle.core_open.specs.Pool.{Pool as PoolOf};
-ghost use Rattle.core_open.proofs.Growing.{MayGrow};
 ghost use Rattle.core_turns.specs.Core.{IsCore, at_disk, HasBankOf};
 ghost use Rattle.core_commit.specs.CommitTurns.{CommitRun as RunOf};
 ghost use Rattle.core_turns.specs.Committing.{AnswersUber, BeginsCommit, DropsHold, HasTable, IsCommitOf, StepsCommit};
@@ -17,7 +17,6 @@ ghost use Rattle.core_turns.specs.UnderWay.{TurnGoesOn};
 use crate::turn::too_many;
 use crate::{Core, OutOfMemory, Turn};
 use bank_trait::Bank;
-use block_record::encode_index;
 use core_blocks::Blocks;
 use core_commit::{CommitRun, CommitStep, next_uber};
 use core_copy::front_behind;
@@ -104,13 +103,13 @@ impl Core {
         if self.begun >= MAX_GROUP - 1 {
             return Turn::Done(Answer::Limit { reached: MAX_GROUP });
         }
-        let entries = self.blocks.entries();
-        let Ok(page) = encode_index(alloc, entries) else {
+        let Ok(page) = self.blocks.page(alloc) else {
             return Turn::Done(Answer::NoMemory);
         };
+        let entries = self.blocks.entries();
         let before = self.uber.reflow();
         let chosen = choose(&before, self.done, &self.locks);
-        let next = next_uber(&self.uber, &chosen, entries, &page, self.out);
+        let next = next_uber(&self.uber, &chosen, entries, &page.digest, self.out);
         let Ok(next) = Box::new(alloc, next) else {
             return Turn::Done(Answer::NoMemory);
         };
@@ -122,7 +121,7 @@ impl Core {
         };
         self.begun += 1;
         self.committing = Some(actor);
-        Turn::More(CommitRun::new(next, index, page))
+        Turn::More(CommitRun::new(next, index, page.bytes))
     }
 
     /// The next device call of a commit. Where none is left for the devices in use, its group is answered:

@@ -12,6 +12,7 @@ use Rattle.core_blocks.proofs.Steps.{with_parts, begun_step, refused_step, begun
 use Rattle.core_blocks.proofs.Keeping.{kept_where, in_use_taking, free_spares}
 use Rattle.core_blocks.proofs.Beginning.{err_iff, has_room, made_and_ended, space_cause, space_full, table_full}
 use Rattle.core_blocks.proofs.UnderWay.{begun_under, refused_under}
+use Rattle.core_blocks.proofs.KeptPage.{page_stays}
 use Rattle.core_blocks.proofs.blocks.Blocks.begin_put.Goals as goal
 
 pub returns-in_err-reserve_id-clause-kept : goal.returns-in_err-reserve_id-clause-kept
@@ -25,28 +26,32 @@ free_run : (c : goal.In-Ok) → (let run = layout_run c.in-Ok.layout in
 free_run c = c.in-Ok.ensures.first.free
 
 pub invariant_of-self-in-Ok : goal.invariant_of-self-in-Ok
-invariant_of-self-in-Ok c =
-    begun_step c.self.inside.parity c.self.inside.births c.self.inside.table
-    c.reserve_id.new.self c.self.inside.space c.take.new.space c.args.locks.now
-    (layout_run c.in-Ok.layout) c.in-Ok.ensures.some c.self.invariant
-    (ap (λ (t : Table). t.entries) c.in_ok-reserve_id.ensures.ok) (free_run c)
-    c.in-Ok.ensures.taken
+invariant_of-self-in-Ok c = (
+  begun_step c.self.inside.parity c.self.inside.births c.self.inside.table
+      c.reserve_id.new.self c.self.inside.space c.take.new.space c.args.locks.now
+      (layout_run c.in-Ok.layout) c.in-Ok.ensures.some c.self.invariant.0
+      (ap (λ (t : Table). t.entries) c.in_ok-reserve_id.ensures.ok) (free_run c)
+      c.in-Ok.ensures.taken,
+  page_stays c.self.inside.page (ap (λ (t : Table). t.entries) c.in_ok-reserve_id.ensures.ok) c.self.invariant.1,
+)
 
 entries_left : (c : goal.After-into) → c.release_id.new.self.entries ≡ c.self.inside.table.entries
 entries_left c = ap (λ (t : Table). t.entries) c.release_id.ensures.value
     ∙ ap (λ (t : Table). t.entries) c.in_ok-reserve_id.ensures.ok
 
 pub invariant_of-self-in-Err : goal.invariant_of-self-in-Err
-invariant_of-self-in-Err c =
-    refused_step c.self.inside.parity c.self.inside.births c.self.inside.table
-    c.release_id.new.self c.self.inside.space c.take.new.space c.self.invariant (entries_left c)
-    c.in-Err.ensures.err
+invariant_of-self-in-Err c = (
+  refused_step c.self.inside.parity c.self.inside.births c.self.inside.table
+      c.release_id.new.self c.self.inside.space c.take.new.space c.self.invariant.0 (entries_left c)
+      c.in-Err.ensures.err,
+  page_stays c.self.inside.page (entries_left c) c.self.invariant.1,
+)
 
 pub returns-in-Ok-clause-under_way : goal.returns-in-Ok-clause-under_way
 returns-in-Ok-clause-under_way c =
     begun_under_way c.self.inside.parity c.self.inside.births c.self.inside.table
     c.reserve_id.new.self c.self.inside.space c.take.new.space c.args.locks.now
-    (record { id = c.args.id; birth = c.args.group; layout = c.in-Ok.layout }) c.self.invariant
+    (record { id = c.args.id; birth = c.args.group; layout = c.in-Ok.layout }) c.self.invariant.0
     (ap (λ (t : Table). t.entries) c.in_ok-reserve_id.ensures.ok) (free_run c)
     c.in-Ok.ensures.listed c.in_ok-reserve_id.ensures.reserved
 
@@ -159,7 +164,7 @@ returns-in-Err-clause-under_err c ranges under =
     (subst (λ (b : Blocks). AreUnderWay b ranges) (sym c.self.view_is) under)
 
 pub returns-in-Ok-clause-stays : goal.returns-in-Ok-clause-stays
-returns-in-Ok-clause-stays c = invariant_of-self-in-Ok c
+returns-in-Ok-clause-stays c = (invariant_of-self-in-Ok c).0
 
 pub returns-in-Err-clause-stays : goal.returns-in-Err-clause-stays
-returns-in-Err-clause-stays c = invariant_of-self-in-Err c
+returns-in-Err-clause-stays c = (invariant_of-self-in-Err c).0

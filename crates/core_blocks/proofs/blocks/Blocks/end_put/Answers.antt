@@ -10,17 +10,19 @@ use Rattle.core_blocks.proofs.blocks.Blocks.end_put.Goals as goal
 pub hold_back-requires-clause-standing : goal.hold_back-requires-clause-standing
 hold_back-requires-clause-standing c =
     gone_stands c.self.inside.parity c.self.inside.births c.self.inside.table c.self.inside.space
-    c.args.entry.id c.put-was.result c.self.invariant c.put-was.ensures.was
+    c.args.entry.id c.put-was.result c.self.invariant.0 c.put-was.ensures.was
 
 pub invariant_of-self : goal.invariant_of-self
 invariant_of-self c =
     let under_way = subst
     (λ (b : Blocks). IsUnderWay b (range_of b.parity b.births c.args.entry)) (sym c.self.view_is)
-    c.requires.under_way in
-    ended_step c.self.inside.parity c.self.inside.births c.self.inside.table c.put-was.new.self
-    c.self.inside.space c.hold_back.new.space c.args.entry c.args.group c.put-was.result
-    c.self.invariant c.requires.right under_way c.put-was.ensures.was c.put-was.ensures.change
-    c.hold_back.ensures.value
+    c.requires.under_way in (
+      ended_step c.self.inside.parity c.self.inside.births c.self.inside.table c.put-was.new.self
+          c.self.inside.space c.hold_back.new.space c.args.entry c.args.group c.put-was.result
+          c.self.invariant.0 c.requires.right under_way c.put-was.ensures.was c.put-was.ensures.change
+          c.hold_back.ensures.value,
+      tt,
+    )
 
 pub returns-clause-kept : goal.returns-clause-kept
 returns-clause-kept c past kept before free =
@@ -38,11 +40,11 @@ returns-clause-under c left ranges gains under =
     c.requires.under_way in
     ended_under c.self.inside.parity c.self.inside.births c.self.inside.table c.put-was.new.self
     c.self.inside.space c.hold_back.new.space c.args.entry c.args.group c.put-was.result left
-    ranges c.self.invariant under_way c.put-was.ensures.was c.put-was.ensures.change
+    ranges c.self.invariant.0 under_way c.put-was.ensures.was c.put-was.ensures.change
     c.put-was.ensures.reserved c.hold_back.ensures.value
     (subst (λ (b : Blocks). Gains left ranges (range_of b.parity b.births c.args.entry))
     (sym c.self.view_is) gains)
     (subst (λ (b : Blocks). AreUnderWay b ranges) (sym c.self.view_is) under)
 
 pub returns-clause-stays : goal.returns-clause-stays
-returns-clause-stays c = invariant_of-self c
+returns-clause-stays c = (invariant_of-self c).0

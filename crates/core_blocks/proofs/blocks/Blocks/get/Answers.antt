@@ -20,5 +20,5 @@ returns-clause-stands c =
     (copied (IsStanding c.self.inside.parity c.self.inside.births c.self.inside.space)
     c.get.result
     (gone_stands c.self.inside.parity c.self.inside.births c.self.inside.table
-    c.self.inside.space c.args.id (option_copied c.get.result) c.self.invariant
+    c.self.inside.space c.args.id (option_copied c.get.result) c.self.invariant.0
     c.get.ensures.value))

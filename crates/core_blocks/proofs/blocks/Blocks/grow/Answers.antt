@@ -32,13 +32,16 @@ module _ (c : goal.After-enlarge) where
       (record c.self.inside.space { capacity = c.args.capacity }))) (sym c.add.ensures.value) holds)
 
 pub invariant_of-self : goal.invariant_of-self
-invariant_of-self c = of_fields c AreInStep (grown_step (old_blocks c) c.args.group c.args.capacity (born c)
-    (of_old c (λ (b : Blocks). b.parity ≤ last_width b.births) c.requires.wide)
-    (of_old c (λ (b : Blocks). last_width b.births < 16) c.requires.narrow)
-    (of_old c (λ (b : Blocks). b.space.capacity ≤ c.args.capacity) c.requires.larger) c.requires.small c.self.invariant)
+invariant_of-self c = (
+  of_fields c AreInStep (grown_step (old_blocks c) c.args.group c.args.capacity (born c)
+      (of_old c (λ (b : Blocks). b.parity ≤ last_width b.births) c.requires.wide)
+      (of_old c (λ (b : Blocks). last_width b.births < 16) c.requires.narrow)
+      (of_old c (λ (b : Blocks). b.space.capacity ≤ c.args.capacity) c.requires.larger) c.requires.small c.self.invariant.0),
+  c.self.invariant.1,
+)
 
 pub returns-clause-stays : goal.returns-clause-stays
-returns-clause-stays c = invariant_of-self c
+returns-clause-stays c = (invariant_of-self c).0
 
 pub returns-clause-under : goal.returns-clause-under
 returns-clause-under c ranges under = of_fields c (λ (b : Blocks). AreUnderWay b ranges)

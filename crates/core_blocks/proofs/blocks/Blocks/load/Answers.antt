@@ -28,14 +28,16 @@ space_of-requires-clause-apart c =
 pub invariant_of-result : goal.invariant_of-result
 invariant_of-result c =
     let same = same_index c.in_ok-table.table.entries c.args.entries.now
-    c.entries.ensures.table.index c.requires.index c.in_ok-table.ensures.entries in
-    loaded_step c.args.parity c.args.births c.args.capacity c.in_ok-table.table
-    c.in_ok-space.space c.requires.layouts c.requires.small c.entries.ensures.table.index
-    (subst (λ (l : List IndexEntry). AreApart c.args.parity c.args.births l) (sym same)
-    c.requires.apart)
-    (subst (λ (l : List IndexEntry).
-    IsTakenBy c.args.parity c.args.births c.args.capacity l c.in_ok-space.space)
-    c.entries.ensures.value c.in_ok-space.ensures.value)
+    c.entries.ensures.table.index c.requires.index c.in_ok-table.ensures.entries in (
+      loaded_step c.args.parity c.args.births c.args.capacity c.in_ok-table.table
+          c.in_ok-space.space c.requires.layouts c.requires.small c.entries.ensures.table.index
+          (subst (λ (l : List IndexEntry). AreApart c.args.parity c.args.births l) (sym same)
+          c.requires.apart)
+          (subst (λ (l : List IndexEntry).
+          IsTakenBy c.args.parity c.args.births c.args.capacity l c.in_ok-space.space)
+          c.entries.ensures.value c.in_ok-space.ensures.value),
+      tt,
+    )
 
 pub returns-clause-table : goal.returns-clause-table
 returns-clause-table c =

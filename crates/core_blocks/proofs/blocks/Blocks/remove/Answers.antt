@@ -9,14 +9,16 @@ use Rattle.core_blocks.proofs.blocks.Blocks.remove.Goals as goal
 pub hold_back-requires-clause-standing : goal.hold_back-requires-clause-standing
 hold_back-requires-clause-standing c =
     gone_stands c.self.inside.parity c.self.inside.births c.self.inside.table c.self.inside.space
-    c.args.id c.remove-gone.result c.self.invariant c.remove-gone.ensures.was
+    c.args.id c.remove-gone.result c.self.invariant.0 c.remove-gone.ensures.was
 
 pub invariant_of-self : goal.invariant_of-self
-invariant_of-self c =
-    removed_step c.self.inside.parity c.self.inside.births c.self.inside.table
-    c.remove-gone.new.self c.self.inside.space c.hold_back.new.space c.args.id c.args.group
-    c.remove-gone.result c.self.invariant c.remove-gone.ensures.was c.remove-gone.ensures.change
-    c.hold_back.ensures.value
+invariant_of-self c = (
+  removed_step c.self.inside.parity c.self.inside.births c.self.inside.table
+      c.remove-gone.new.self c.self.inside.space c.hold_back.new.space c.args.id c.args.group
+      c.remove-gone.result c.self.invariant.0 c.remove-gone.ensures.was c.remove-gone.ensures.change
+      c.hold_back.ensures.value,
+  tt,
+)
 
 pub returns-clause-kept : goal.returns-clause-kept
 returns-clause-kept c past kept before free =
@@ -31,9 +33,9 @@ pub returns-clause-under : goal.returns-clause-under
 returns-clause-under c ranges under =
     removed_under c.self.inside.parity c.self.inside.births c.self.inside.table
     c.remove-gone.new.self c.self.inside.space c.hold_back.new.space c.args.id c.args.group
-    c.remove-gone.result ranges c.self.invariant c.remove-gone.ensures.was
+    c.remove-gone.result ranges c.self.invariant.0 c.remove-gone.ensures.was
     c.remove-gone.ensures.change c.remove-gone.ensures.reserved c.hold_back.ensures.value
     (subst (λ (b : Blocks). AreUnderWay b ranges) (sym c.self.view_is) under)
 
 pub returns-clause-stays : goal.returns-clause-stays
-returns-clause-stays c = invariant_of-self c
+returns-clause-stays c = (invariant_of-self c).0

@@ -8,11 +8,13 @@ use Rattle.core_blocks.proofs.UnderWay.{answered_under}
 use Rattle.core_blocks.proofs.blocks.Blocks.synced.Goals as goal
 
 pub invariant_of-self : goal.invariant_of-self
-invariant_of-self c =
-    subst (λ (s : Space). AreInStep (with_parts c.self.inside.parity c.self.inside.births
-    c.self.inside.table s)) (sym c.synced.ensures.value)
-    (answered_step c.self.inside.parity c.self.inside.births c.self.inside.table
-    c.self.inside.space c.args.group c.self.invariant)
+invariant_of-self c = (
+  subst (λ (s : Space). AreInStep (with_parts c.self.inside.parity c.self.inside.births
+      c.self.inside.table s)) (sym c.synced.ensures.value)
+      (answered_step c.self.inside.parity c.self.inside.births c.self.inside.table
+      c.self.inside.space c.args.group c.self.invariant.0),
+  c.self.invariant.1,
+)
 
 pub returns-clause-kept : goal.returns-clause-kept
 returns-clause-kept c past kept answered free =
@@ -32,4 +34,4 @@ returns-clause-under c ranges under =
     (subst (λ (b : Blocks). AreUnderWay b ranges) (sym c.self.view_is) under))
 
 pub returns-clause-stays : goal.returns-clause-stays
-returns-clause-stays c = invariant_of-self c
+returns-clause-stays c = (invariant_of-self c).0
