@@ -26,6 +26,8 @@ mod files_tests;
 #[cfg(test)]
 mod gate_tests;
 #[cfg(test)]
+mod hold_tests;
+#[cfg(test)]
 mod lost_block_tests;
 #[cfg(test)]
 mod replay_stop_tests;

@@ -16,7 +16,7 @@ ghost use Rattle.core_commit.specs.Spared.{HaveGoneOut, SparesData};
 
 use crate::committing::{is_signing, make, page_sector};
 use bank_trait::{Bank, Failed};
-use block_record::IndexEntry;
+use block_record::{IndexEntry, page_sectors};
 use commit_job::{Commit, CommitCall};
 use reflow_mark::Reflow;
 use std::marker::Model;
@@ -123,6 +123,21 @@ impl CommitRun {
         ensures value { result ≡ slice_get (calls_left out self.now.calls) 0 }
     {
         self.calls.next(out)
+    }
+
+    /// Whether the next call syncs a device, where these are out.
+    pub fn syncs_next(&self, out: DeviceSet) -> bool {
+        matches!(
+            self.next_call(out),
+            Some(CommitCall::BaseSync { .. } | CommitCall::UberSync { .. })
+        )
+    }
+
+    /// How many sectors the index page has.
+    pub(crate) fn index_sectors(&self) -> u64
+        ensures value { result ≡ page_sectors self.now.uber.count }
+    {
+        page_sectors(self.uber.count() as usize)
     }
 
     /// Writes a sector of the index page, from 0, to a device that the group does not have.

@@ -14,7 +14,6 @@ ghost use Rattle.core_commit.specs.JoinTurns.{IsNextTurnOf, IsWhy, JoinSteps};
 use crate::CommitRun;
 use crate::guest::{Guest, JoinTurn, next_turn};
 use bank_trait::Bank;
-use block_record::page_sectors;
 use std::marker::Model;
 use uberblock_ring::DeviceSet;
 
@@ -96,11 +95,22 @@ impl JoinRun {
 
     /// What comes next.
     fn turn(&self, out: DeviceSet) -> JoinTurn
-        requires count { self.now.run.uber.count ≤ 512 }
         ensures turn { IsNextTurnOf self.now out result }
     {
-        let sectors = page_sectors(self.run.uber().count() as usize);
-        next_turn(self.run.next_call(out), self.guest, sectors)
+        next_turn(
+            self.run.next_call(out),
+            self.guest,
+            self.run.index_sectors(),
+        )
+    }
+
+    /// Whether the next step syncs a device, where these are out. The decision syncs none.
+    pub fn syncs_next(&self, out: DeviceSet) -> bool {
+        match self.turn(out) {
+            JoinTurn::PoolCall => self.run.syncs_next(out),
+            JoinTurn::GuestSync => true,
+            JoinTurn::GuestWrite { .. } | JoinTurn::Decision => false,
+        }
     }
 
     /// Makes the next call of the pool's first half.

@@ -18,6 +18,7 @@ use bank_trait::Bank;
 use core_commit::{CommitRun, JoinRun, JoinStep, WhyDropped};
 use core_state::Answer;
 use std::alloc::Global;
+use uberblock_ring::DeviceSet;
 use width_map::FIRST_DATA_SECTOR;
 
 /// Most devices of a pool.
@@ -45,6 +46,17 @@ pub enum AttachRun {
         run: CommitRun,
         why: Option<WhyDropped>,
     },
+}
+
+impl AttachRun {
+    /// Whether its next turn syncs a device, where these are out, and not too many.
+    pub fn syncs_next(&self, out: DeviceSet) -> bool {
+        match self {
+            AttachRun::Reads(_) | AttachRun::Checked(_) => false,
+            AttachRun::Joins(join) => join.syncs_next(out),
+            AttachRun::Signs { run, why: _ } => run.syncs_next(out),
+        }
+    }
 }
 
 /// What is answered with the group of an attach's commit, which left this width.

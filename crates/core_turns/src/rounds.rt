@@ -16,6 +16,7 @@ use bank_trait::Bank;
 use core_commit::CommitRun;
 use core_state::Answer;
 use std::alloc::Global;
+use uberblock_ring::DeviceSet;
 
 /// What a copy has under way between two of its turns.
 #[derive(Drop)]
@@ -27,6 +28,16 @@ pub enum CopyRound {
     Copies(CopyRun),
     /// A commit.
     Commits(CommitRun),
+}
+
+impl CopyRound {
+    /// Whether its next turn syncs a device, where these are out, and not too many. A job reads and writes alone.
+    pub fn syncs_next(&self, out: DeviceSet) -> bool {
+        match self {
+            CopyRound::Rests { .. } | CopyRound::Copies(_) => false,
+            CopyRound::Commits(run) => run.syncs_next(out),
+        }
+    }
 }
 
 impl Core {

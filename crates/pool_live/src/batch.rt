@@ -1,5 +1,5 @@
 // The turns that a client has while it holds the lock.
-ghost use Rattle.std.specs.Prelude.{◌≡◌, ◌↔◌, ◌+◌, ◌≤◌, ℕ, List, All, IsTrue, length};
+ghost use Rattle.std.specs.Prelude.{◌≡◌, ◌+◌, ◌≤◌, ℕ, List, All, IsTrue, length};
 ghost use Rattle.core_state.specs.declared.item.Item.{Item as ItemOf};
 ghost use Rattle.client_script.specs.Script.{IsAllowed, Script as ScriptOf, calls_of};
 ghost use Rattle.core_turns.specs.Core.{CoreState};
@@ -19,7 +19,8 @@ use schedule::{Computed, Live, Progress, ToCompute, turn_of};
 use std::alloc::Global;
 use std::sync::Wait;
 
-/// Most turns that a client has at once, while others wait for theirs.
+/// Most turns that a client has at once, while others wait for theirs. It has fewer where a turn behind its first would
+/// sync a device: it has that one next, at once with those behind it.
 const MOST_AT_ONCE: u64 = 32;
 
 /// What a client has before it after a turn.
@@ -34,11 +35,12 @@ pub enum Next {
 }
 
 impl Next {
-    /// Whether a turn follows for which nothing is to be computed first.
-    fn goes_on_at_once(&self) -> bool
-        ensures { IsTrue result ↔ (self.now ≡ GoesOn to_compute.Nothing) }
+    /// Whether a turn of the client of this number follows in the same hold of the lock: one for which nothing is to be
+    /// computed first, and which syncs no device.
+    fn goes_on_at_once<B: Bank>(&self, live: &Live<B>, actor: u8) -> bool
+        ensures { IsTrue result → self.now ≡ GoesOn to_compute.Nothing }
     {
-        matches!(self, Next::GoesOn(ToCompute::Nothing))
+        matches!(self, Next::GoesOn(ToCompute::Nothing)) && !live.syncs_next(actor)
     }
 }
 
@@ -96,8 +98,8 @@ fn count_answered(progress: &Progress, actor: u8, before: usize, now: usize) -> 
 }
 
 /// A client's turns, one after the other, where it has one to take: with what was computed for the first, and as long
-/// as the next asks for nothing to be computed, finds no other's call in its way, and others have not waited for too
-/// many.
+/// as the next asks for nothing to be computed, finds no other's call in its way, syncs no device, and others have not
+/// waited for too many. So at most one of them, the first, syncs a device.
 fn have_turns<B: Bank>(
     alloc: Global,
     live: &mut Live<B>,
@@ -143,7 +145,7 @@ fn have_turns<B: Bank>(
         let now = live.journal.len();
         answered += count_answered(&live.progress, actor, before, now);
         let next = next_of(alloc, &mut live.progress, script, actor, before, now);
-        if !next.goes_on_at_once() {
+        if !next.goes_on_at_once(live, actor) {
             return Batch {
                 turns,
                 answered,

@@ -14,6 +14,7 @@ use client_script::ScriptCall;
 use core_commit::CommitRun;
 use core_turns::{AttachRun, CopyRound, GetRun, PutRun};
 use std::alloc::Global;
+use uberblock_ring::DeviceSet;
 
 /// What a call under way does.
 #[derive(Drop)]
@@ -65,6 +66,16 @@ impl Work {
         match self {
             Work::Attach(AttachRun::Signs { run, why: _ }) => Some(run.uber().group()),
             _ => None,
+        }
+    }
+
+    /// Whether its next turn syncs a device, where these are out, and not too many.
+    fn syncs_next(&self, out: DeviceSet) -> bool {
+        match self {
+            Work::Put(_) | Work::Read(_) => false,
+            Work::Sync(run) => run.syncs_next(out),
+            Work::Attach(run) => run.syncs_next(out),
+            Work::Copy(round) => round.syncs_next(out),
         }
     }
 
@@ -140,6 +151,14 @@ impl Client {
         ensures { self.new ≡ record self.old { under_way = None } }
     {
         self.under_way = None;
+    }
+
+    /// Whether its next turn syncs a device, where these are out, and not too many. A call's first turn syncs none.
+    pub fn syncs_next(&self, out: DeviceSet) -> bool {
+        match &self.under_way {
+            Some(under_way) => under_way.work.syncs_next(out),
+            None => false,
+        }
     }
 
     /// What the next turn of its call under way asks to be computed, if it has one, of a client with these calls.

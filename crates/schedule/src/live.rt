@@ -27,6 +27,12 @@ pub struct Finished<B: Bank> {
 }
 
 impl<B: Bank> Live<B> {
+    /// Whether the next turn of the client of this number syncs a device. A turn that finds too many devices out makes
+    /// no device call.
+    pub fn syncs_next(&self, actor: u8) -> bool {
+        self.progress.syncs_next(actor, self.core.out()) && !self.core.has_too_many_out()
+    }
+
     /// What is left of it once the calls were carried out, which ended so.
     pub fn end(self, ended: Ended) -> Finished<B>
         ensures { result ≡ record {

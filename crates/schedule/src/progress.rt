@@ -14,6 +14,7 @@ use crate::client::Client;
 use crate::computing::ToCompute;
 use client_script::Script;
 use std::alloc::{AllocError, Global};
+use uberblock_ring::DeviceSet;
 
 /// Most turns of a run.
 const MOST_TURNS: u64 = 1 << 62;
@@ -75,6 +76,14 @@ impl Progress {
         ensures { result ≡ has_turn_at script.now self.now.clients.items actor }
     {
         self.is_busy(actor) || self.has_left(actor, script.calls(actor).len() as u64)
+    }
+
+    /// Whether the next turn of the client of this number syncs a device, where these are out, and not too many.
+    pub fn syncs_next(&self, actor: u8, out: DeviceSet) -> bool {
+        match self.clients.get(usize::from(actor)) {
+            Some(client) => client.syncs_next(out),
+            None => false,
+        }
     }
 
     /// What the next turn of the call that a client has under way asks to be computed. What a read got is shared for

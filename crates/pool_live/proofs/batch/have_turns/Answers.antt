@@ -68,7 +68,7 @@ loop-turn-preserved g c =
     let count = c.loop-turn.invariant.had in
     let few = c.loop-turn.invariant.answered in
     let is : c.next_of-next.result ≡ GoesOn to_compute.Nothing =
-    c.goes_on_at_once.ensures.0 c.if-not-goes_on_at_once.false in
+    c.goes_on_at_once.ensures c.if-not-goes_on_at_once.false in
     let next = rw is at (next_still c.args.script.now new.core (g.B.Bank.disk new.bank) new.journal new.progress
     c.next_of-next.new.progress c.args.actor c.next_of-next.result c.next_of-next.ensures.same
     c.next_of-next.ensures.turns (c.next_of-next.ensures.next
