@@ -2,6 +2,7 @@ pub mod LastGroups
 pub mod Listed
 pub mod Refusing
 pub mod Rivals
+pub mod Seeing
 pub mod Slots
 pub mod Surveys
 pub mod Tested

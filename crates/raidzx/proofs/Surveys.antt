@@ -1,5 +1,5 @@
 -- What a survey says of the pool is what is found after the rings were read.
-use Rattle.std.proofs.Common.{◌≡◌, ℕ, ◌<◌, sym, ◌∙◌, ap, subst, inl, inr}
+use Rattle.std.proofs.Common.{◌≡◌, ℕ, ◌<◌, Bool, sym, ◌∙◌, ap, subst, inl, inr}
 use Rattle.bank_trait.specs.Disk.{Disk, Image, Unchanged}
 use Rattle.uberblock_ring.specs.Devices.{count_of}
 use Rattle.core_state.specs.Shown.{Shape}
@@ -14,8 +14,11 @@ use Rattle.raidzx.specs.declared.door.Pool.{Pool}
 use Rattle.raidzx.specs.declared.door.Pool.TheVariants.{Chosen, Likely, Untold}
 use Rattle.raidzx.specs.declared.door.Survey.{Survey}
 use Rattle.raidzx.specs.declared.standing.Known.{Known}
-use Rattle.raidzx.specs.Surveyed.{FindsNone, FindsPool, IsPoolOf}
+use Rattle.raidzx.specs.declared.sightings.Sightings.{Sightings}
+use Rattle.raidzx.specs.Seeing.{AreSeen}
+use Rattle.raidzx.specs.Surveyed.{FindsNone, FindsPool, IsPoolOf, ToldAsNone}
 use Rattle.raidzx.proofs.Listed.{failed_before, none_before}
+use Rattle.raidzx.proofs.Seeing.{seen_still}
 
 -- what is known of a pool, or this where it is not told
 known_in : Known → Pool → Known
@@ -50,19 +53,27 @@ module _ (old mid new : Disk) (same : Unchanged old mid) (survey : Survey) where
     chosen = λ image holds. found_then found image holds chosen;
   }
 
-  -- the one that is likely alone has too many devices out,
-  pub likely_found : (found : Found)
-      → ((known : Known) → survey.pool ≡ Likely known → found.uber.parity < count_of found.out)
+  -- one that was found and is told as none has too many devices out,
+  pub none_chosen : (asks_all : Bool) (found : Found)
+      → (ToldAsNone survey.pool → found.uber.parity < count_of found.out)
       → HaveFailed mid new found.silent
       → ((held : Image) → HoldsImage mid held → IsFoundIn (shape_of mid) held found)
-      → FindsNone old new survey
-  likely_found found many failed chosen = λ known told image holds. inr (record {
+      → FindsNone old new asks_all survey
+  none_chosen asks_all found many failed chosen = λ told. inr (λ image holds. inr (record {
     found = found;
     silent = failed_before old mid new same found.silent failed;
     chosen = found_then found image holds chosen;
-    many = many known told;
-  })
+    many = many told;
+  }))
 
   -- or none was found.
-  pub likely_none : (why : OpenWhy) → (why ≡ NoMemory → ⊥) → IsFindCause mid new why → FindsNone old new survey
-  likely_none why memory cause = λ known told image holds. inl (none_before old mid new same image why holds memory cause)
+  pub none_found : (asks_all : Bool) (why : OpenWhy) → (why ≡ NoMemory → ⊥) → IsFindCause mid new why
+      → FindsNone old new asks_all survey
+  none_found asks_all why memory cause = λ told. inr (λ image holds.
+      inl (none_before old mid new same image why holds memory cause))
+
+-- What was seen is what a survey tells, which was made after more reads.
+pub seen_then : (old mid new : Disk) → Unchanged mid new → (sightings : Sightings) → AreSeen old mid sightings
+    → (survey : Survey) → survey.sightings ≡ sightings → AreSeen old new survey.sightings
+seen_then old mid new same sightings seen survey is =
+    subst (λ (told : Sightings). AreSeen old new told) (sym is) (seen_still old mid new sightings same seen)

@@ -1,12 +1,15 @@
 // Whether a command that changes a pool is let in: a slip in the words must cost no disk.
-ghost use Rattle.std.specs.Prelude.{◌≡◌, ◌≢◌, ◌<◌, ◌↔◌, ℕ, IfOk, true};
+ghost use Rattle.std.specs.Prelude.{◌≡◌, ◌≢◌, ◌<◌, ◌↔◌, ℕ, IfOk, IsTrue, false, true};
+ghost use Rattle.std.specs.List.{All};
 ghost use Rattle.bank_trait.specs.Disk.{Unchanged};
 ghost use Rattle.uberblock_ring.specs.Devices.{count_of, has_device};
 ghost use Rattle.core_open.specs.declared.why.OpenWhy.TheVariants.{NoMemory};
-ghost use Rattle.raidzx.specs.declared.door.Pool.TheVariants.{Chosen, Likely};
+ghost use Rattle.raidzx.specs.declared.door.Pool.TheVariants.{Chosen};
 ghost use Rattle.raidzx.specs.declared.standing.Known.{Known as KnownOf};
 ghost use Rattle.raidzx.specs.Refused.{AreRefused, IsAmiss};
-ghost use Rattle.raidzx.specs.Surveyed.{FindsNone, FindsPool, IsPoolOf};
+ghost use Rattle.raidzx.specs.PlainlyWell.{IsInPlace, IsUpToDate, IsPlainlyWell};
+ghost use Rattle.raidzx.specs.Seeing.{AreSeen};
+ghost use Rattle.raidzx.specs.Surveyed.{FindsNone, FindsPool, IsPoolOf, ToldAsNone};
 
 use crate::lives::{are_of_one_life, other_places};
 use crate::places::{both, wrong_places};
@@ -47,8 +50,10 @@ pub fn look_around<B: Bank>(
     asks_all: bool,
 ) -> Result<Survey, AllocError>
     ensures unchanged { Unchanged (B.disk bank.old) (B.disk bank.new) }
+    ensures seen { IfOk result (λ survey.
+        AreSeen (B.disk bank.old) (B.disk bank.new) survey.sightings) }
     ensures chosen { IfOk result (FindsPool (B.disk bank.old) (B.disk bank.new)) }
-    ensures likely { IfOk result (FindsNone (B.disk bank.old) (B.disk bank.new)) }
+    ensures none { IfOk result (FindsNone (B.disk bank.old) (B.disk bank.new) asks_all) }
 {
     let named = bank.devices();
     let sightings = see(alloc, bank)?;
@@ -69,8 +74,8 @@ pub fn look_around<B: Bank>(
 fn surveyed(alloc: Global, named: u32, sightings: Sightings, found: Found) -> Survey
     ensures chosen { (known : KnownOf) → result.pool ≡ Chosen known
         → IsPoolOf found named result known }
-    ensures likely { (known : KnownOf) → result.pool ≡ Likely known
-        → found.uber.parity < count_of found.out }
+    ensures none { ToldAsNone result.pool → found.uber.parity < count_of found.out }
+    ensures sightings { result.sightings ≡ sightings }
 {
     if found.has_too_many_out() {
         return likely(alloc, named, sightings);
@@ -90,8 +95,8 @@ fn unsurveyed(
     sightings: Sightings,
     why: OpenWhy,
 ) -> Result<Survey, AllocError>
-    ensures { IfOk result (λ survey.
-        ((known : KnownOf) → survey.pool ≡ Chosen known → ⊥) × (why ≢ NoMemory)) }
+    ensures none { IfOk result (λ survey. ToldAsNone survey.pool × (why ≢ NoMemory)) }
+    ensures sightings { IfOk result (λ survey. survey.sightings ≡ sightings) }
 {
     match why {
         OpenWhy::NoMemory => Err(AllocError),
@@ -101,7 +106,8 @@ fn unsurveyed(
 
 /// The pool that most images show, which is not found by an opening.
 fn likely(alloc: Global, named: u32, sightings: Sightings) -> Survey
-    ensures { (known : KnownOf) → result.pool ≡ Chosen known → ⊥ }
+    ensures none { ToldAsNone result.pool }
+    ensures sightings { result.sightings ≡ sightings }
 {
     let pool = likely_pool(&sightings, named);
     Survey {
@@ -113,7 +119,7 @@ fn likely(alloc: Global, named: u32, sightings: Sightings) -> Survey
 
 /// The pool that most images show, in whichever place.
 fn likely_pool(sightings: &Sightings, named: u32) -> Pool
-    ensures { (known : KnownOf) → result ≡ Chosen known → ⊥ }
+    ensures { ToldAsNone result }
 {
     match greatest(&sightings.list, most_shown(&sightings.list)) {
         Some(uber) => Pool::Likely(Known::by_greatest(named, sightings, &uber)),
@@ -147,25 +153,42 @@ fn count_showing(sightings: &[Sighting], pool: u64) -> u32 {
 
 /// Whether each image that is read shows one pool, in its place and none of it left behind, and each disk of the pool
 /// has one.
-fn is_plainly_well(sightings: &Sightings, named: u32) -> bool {
+fn is_plainly_well(sightings: &Sightings, named: u32) -> bool
+    ensures { IsTrue result → IsPlainlyWell sightings.now named }
+{
+    if sightings.list.is_empty() {
+        return true;
+    }
     match greatest(&sightings.list, None) {
         Some(uber) => all_show(&sightings.list, &uber, named) && all_are_near(sightings, &uber),
-        None => true,
+        None => false,
     }
 }
 
-/// Whether each uberblock is one of this one's pool, in its place, and names no more disks than are named.
-fn all_show(sightings: &[Sighting], uber: &Uber, named: u32) -> bool {
-    sightings.iter().all(|sighting| {
-        sighting.number == sighting.place
-            && sighting.uber.pool() == uber.pool()
-            && sighting.uber.reflow().to <= named
-            && are_of_one_life(&sighting.uber, uber)
-    })
+fn all_show(sightings: &[Sighting], uber: &Uber, named: u32) -> bool
+    ensures { IsTrue result ↔ All (λ sighting. IsInPlace sighting uber.now named) sightings.now }
+{
+    sightings
+        .iter()
+        .all(|sighting| is_in_place(sighting, uber, named))
+}
+
+/// Whether this is an uberblock of this one's pool, in its place, and names no more disks than are named.
+fn is_in_place(sighting: &Sighting, uber: &Uber, named: u32) -> bool
+    ensures { IsTrue result ↔ IsInPlace sighting.now uber.now named }
+{
+    sighting.number == sighting.place
+        && sighting.uber.pool() == uber.pool()
+        && sighting.uber.reflow().to <= named
+        && are_of_one_life(&sighting.uber, uber)
 }
 
 /// Whether no image of the pool that is read was left behind.
-fn all_are_near(sightings: &Sightings, uber: &Uber) -> bool {
+fn all_are_near(sightings: &Sightings, uber: &Uber) -> bool
+    ensures { IsTrue result → (place : ℕ) → place < uber.now.reflow.to
+        → has_device sightings.now.unread place ≡ false
+        → IsUpToDate sightings.now.list.items uber.now place }
+{
     for place in 0..uber.reflow().to {
         if !sightings.unread.has(place) && !is_near(&sightings.list, uber, place) {
             return false;
@@ -174,7 +197,9 @@ fn all_are_near(sightings: &Sightings, uber: &Uber) -> bool {
     true
 }
 
-fn is_near(sightings: &[Sighting], uber: &Uber, place: u32) -> bool {
+fn is_near(sightings: &[Sighting], uber: &Uber, place: u32) -> bool
+    ensures { IsTrue result → IsUpToDate sightings.now uber.now place }
+{
     match last_at(sightings, uber.pool(), place) {
         Some(last) => !is_behind(last.group(), uber.group()),
         None => false,

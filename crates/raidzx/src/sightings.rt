@@ -1,9 +1,10 @@
 // What the images show before a command is carried out. These are reads alone: each ring is read once.
-ghost use Rattle.std.specs.Prelude.{◌≡◌, ◌<◌, ◌≤◌, ◌↔◌, IfNone, IfSome, IsTrue};
+ghost use Rattle.std.specs.Prelude.{◌≡◌, ◌<◌, ◌≤◌, ◌↔◌, IfNone, IfOk, IfSome, IsTrue, OnOk};
 ghost use Rattle.std.specs.List.{Any};
 ghost use Rattle.bank_trait.specs.Disk.{Unchanged};
 ghost use Rattle.raidzx.specs.Standing.{ShowsNothing};
 ghost use Rattle.raidzx.specs.Places.{IsLastAt, IsLastOf, IsOfPoolAt, ShowsAtPlace};
+ghost use Rattle.raidzx.specs.Seeing.{AreSeen, NotesSlot, SeesRing};
 
 use crate::seen::read_slot;
 use attach_ring::uber_in_slot;
@@ -40,7 +41,8 @@ impl Sightings {
 /// Reads the rings of the images.
 #[tactic(auto, using(core_open::proofs::Unchanged::unchanged_none, core_open::proofs::Unchanged::unchanged_then))]
 pub fn see<B: Bank>(alloc: Global, bank: &mut B) -> Result<Sightings, AllocError>
-    ensures { Unchanged (B.disk bank.old) (B.disk bank.new) }
+    ensures unchanged { Unchanged (B.disk bank.old) (B.disk bank.new) }
+    ensures seen { IfOk result (AreSeen (B.disk bank.old) (B.disk bank.new)) }
 {
     let mut sightings = Sightings {
         list: Vec::new(alloc),
@@ -57,7 +59,9 @@ pub fn see<B: Bank>(alloc: Global, bank: &mut B) -> Result<Sightings, AllocError
 fn see_ring<B: Bank>(bank: &mut B, place: u32, sightings: &mut Sightings) -> Result<(), AllocError>
     requires device { place < (B.disk bank.old).devices }
     requires looked_at { place < 64 }
-    ensures { Unchanged (B.disk bank.old) (B.disk bank.new) }
+    ensures unchanged { Unchanged (B.disk bank.old) (B.disk bank.new) }
+    ensures seen { OnOk result
+        (SeesRing (B.disk bank.old) (B.disk bank.new) place sightings.old sightings.new) }
 {
     for slot in 0..RING_SLOTS {
         let Some(bytes) = read_slot(bank, place, slot) else {
@@ -75,7 +79,9 @@ fn note_slot(
     place: u32,
     slot: u32,
     list: &mut Vec<Sighting>,
-) -> Result<(), AllocError> {
+) -> Result<(), AllocError>
+    ensures { OnOk result (NotesSlot bytes.now place slot list.old.items list.new.items) }
+{
     if let Some(found) = uber_in_slot(bytes, slot) {
         list.push(Sighting {
             place,

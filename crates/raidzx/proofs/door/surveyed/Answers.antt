@@ -14,3 +14,6 @@ returns-clause-chosen c = λ known told.
       listed = c.by_found.ensures.listed;
       entries = refl;
     }) told
+
+pub returns-clause-none : goal.returns-clause-none
+returns-clause-none c = λ told. absurd (told c.by_found.result refl)
