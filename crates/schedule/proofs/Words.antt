@@ -98,7 +98,7 @@ pub use Rattle.core_blocks.specs.Runs.{held_sectors}
 pub use Rattle.core_blocks.specs.Usage.{IsTight, UsesAtMost, sectors_in}
 pub use Rattle.core_state.proofs.Outs.{outs_then}
 pub use Rattle.core_state.specs.Outs.{OnlyFailedGoOut}
-pub use Rattle.core_open.proofs.Ends.{present_held}
+pub use Rattle.core_open.proofs.Present.{present_held}
 pub use Rattle.core_open.proofs.Joining.{since_longer}
 pub use Rattle.core_open.proofs.Others.{read_touches}
 pub use Rattle.width_map.proofs.Growing.{none_above_more}
@@ -216,7 +216,7 @@ pub use Rattle.schedule.specs.Caused.{AnswersAreCaused, FullIsCaused, IsAnswerCa
 pub use Rattle.schedule.specs.Clients.{Changes, ClientsAreAnswered, answered_of}
 pub use Rattle.schedule.specs.Comes.{Comes, TakesTurn}
 pub use Rattle.schedule.specs.Coming.{AttachesNone, GoesOnFor, HasToBear, IsSchedule, IsWorldOf, KeepsUsing, LeadTo}
-pub use Rattle.schedule.specs.Coming.{StaysAsWide, StoodAt}
+pub use Rattle.schedule.specs.Coming.{StaysAsWide, IsRunFrom}
 pub use Rattle.schedule.specs.Dropping.{HasDropCause, IsDropCause, IsToBeTold, WillTell}
 pub use Rattle.schedule.specs.Fitting.{FitsCall, FitsSince, IsDeviceCause, IsGroupKind}
 pub use Rattle.schedule.specs.InTurn.{Cursor, Goes, HasGone, HaveTaken, InOrder, InRest, InRound, IsCallOfScript}

@@ -97,9 +97,9 @@ pub record HasToBear (before after : CoreState) (borne : ℕ) : Type 0 where
   pub stopped : before.core.pool.uber.parity < count_of before.core.pool.out → IsWithin borne 0
   pub within : IsWithin borne after.core.pool.out
 
--- The banks with which these turns listed items are a run's, in a world of this script in which these devices may fail,
--- and which stood at the start.
-pub record StoodAt (script : Script) (start : Turns) (passed : List TurnTaken) (borne : ℕ) (world : World)
+-- The banks with which these turns listed items are those of a run in this world, which came to the start. The world is
+-- one of this script, in which these devices may fail.
+pub record IsRunFrom (script : Script) (start : Turns) (passed : List TurnTaken) (borne : ℕ) (world : World)
     (past : Past) : Type 0 where
   pub world_of : IsWorldOf script world
   pub stood : Runs world script past start.state start.items start.clients
@@ -108,9 +108,9 @@ pub record StoodAt (script : Script) (start : Turns) (passed : List TurnTaken) (
 
 -- What stood at the start stands, and answers that the table is full have their cause.
 pub record StandsOn (script : Script) (start : Turns) (passed : List TurnTaken) (now : Turns) (borne : ℕ) : Type 0 where
-  pub runs : (world : World) (past : Past) → StoodAt script start passed borne world past
+  pub runs : (world : World) (past : Past) → IsRunFrom script start passed borne world past
       → Runs world script past now.state now.items now.clients
-  pub full : (world : World) (past : Past) → StoodAt script start passed borne world past
+  pub full : (world : World) (past : Past) → IsRunFrom script start passed borne world past
       → FullIsCaused script world.opening start.items → FullIsCaused script world.opening now.items
 
 -- These turns lead from one state to another.

@@ -86,8 +86,7 @@ abbrev pub for_call : ℕ → Computed → Computed
 for_call number (computed.Filled other made) = if other == number then computed.Filled other made else computed.Nothing
 for_call number other = other
 
--- It was computed for what this call has under way: for the block of a put that was not filled in yet, or from what a
--- read has.
+-- It was computed for what this call has under way: for the block of a put, or from the columns that a read has.
 abbrev pub FitsWork : Work → Computed → Type 0
 FitsWork (work.Put run) (computed.Filled number made) = made.value.block ≡ to_fill_of run
 FitsWork (work.Read run) (computed.Solved from) = IsAlike from.value.block (to_solve_of run)

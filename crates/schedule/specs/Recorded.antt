@@ -16,6 +16,15 @@ use Rattle.journal_law.specs.Parity.{HaveParityOf}
 use Rattle.schedule.specs.Caused.{AnswersAreCaused, IsAnswerCause}
 use Rattle.schedule.specs.Moments.{KeptSoFar, KeepsOn, Past}
 
+-- No answer of the journal is that a block is damaged.
+abbrev pub NoneIsDamaged : List Item → Type 0
+NoneIsDamaged items = (index : ℕ) (entry : Entry) → CallAt items index entry → entry.answer ≢ answer.Damaged
+
+-- those of a run: known when it began, answered, or begun after these
+abbrev pub all_groups : (world : World) {items : List Item}
+    → Groups world.calls world.handed world.opening world.known items → List Kept
+all_groups world groups = world.known ++ groups.answered ++ groups.begun
+
 -- The journal is right so far; each image since the bank was the first one keeps groups of the run in a row, none
 -- older than the last one listed by then. The last group listed is this one, by this item, and these that images can
 -- show were begun after it; each image since the last item was listed keeps some of them. All groups of the run have
@@ -30,10 +39,10 @@ pub record Recorded (world : World) (past : Past) (items : List Item) (item : Gr
   pub item_is : IsGroupOf world.handed world.opening items item last
   pub in_order : GroupsAreRight items
   pub right : AnswersAreRight world.handed world.opening items
-  pub sound : (index : ℕ) (entry : Entry) → CallAt items index entry → entry.answer ≢ answer.Damaged
+  pub sound : NoneIsDamaged items
   pub caused : AnswersAreCaused items past.banks
-  pub since : KeepsSince world.setting (world.known ++ groups.answered ++ groups.begun) past.origin.clock now
-  pub parity : HaveParityOf world.known (world.known ++ groups.answered ++ groups.begun)
+  pub since : KeepsSince world.setting (all_groups world groups) past.origin.clock now
+  pub parity : HaveParityOf world.known (all_groups world groups)
   pub no_older : KeptSoFar world.setting world.calls world.handed world.opening world.known items past
   pub kept_on : KeepsOn world.setting world.calls world.handed world.opening items item last begun
       (past.banks (length items)) now

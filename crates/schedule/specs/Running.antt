@@ -1,6 +1,7 @@
 -- What stands between two turns of a script's clients.
 use Rattle.std.specs.Prelude.{◌≡◌, ◌⊎◌, ℕ, ◌-◌, ◌<◌, ◌≤◌, List, ◌∷◌, [], flat_map, length, Option, Some, None}
 use Rattle.std.specs.Prelude.{slice_get, ⊤}
+use Rattle.bank_trait.specs.Disk.{Disk}
 use Rattle.core_state.specs.declared.answer.Kind.TheVariants as kind
 use Rattle.core_state.specs.declared.item.Entry.{Entry}
 use Rattle.core_state.specs.declared.item.Group.{Group as GroupItem}
@@ -137,6 +138,16 @@ pub record IsClient (world : World) (script : Script) (items : List Item) (item 
   pub content : (call : ScriptCall) → slice_get (calls_of script index) (client.begun - 1) ≡ Some call
       → HasContent world items call under.at bytes under.work
 
+-- Each call under way is what its client has come to.
+abbrev pub ClientsAreGoing : World → Script → List Item → GroupItem → List Kept → (ℕ → List ℕ) → List Client → Type 0
+ClientsAreGoing world script items item begun contents clients = (index : ℕ) (client : Client) (under : UnderWay)
+    → IsGoing clients index client under → IsClient world script items item begun (contents index) index client under
+
+-- What is known of each attach under way is so.
+abbrev pub HoldAttaches : Setting → Kept → List Kept → Disk → List Client → Type 0
+HoldAttaches setting last begun disk clients = (index : ℕ) (client : Client) (under : UnderWay) (run : AttachRun)
+    → IsGoing clients index client under → under.work ≡ work.Attach run → HoldsAttach setting last begun disk run
+
 -- After these items the journal is right, the core stands with the clients' calls under way and holds the
 -- journal's map, in a pool that reaches so far by now; and each image since the bank was the first one keeps groups of
 -- the run in a row, none older than the last one listed by then. Of a group whose commit is in its first half no image
@@ -153,11 +164,8 @@ pub record Runs (world : World) (script : Script) (past : Past) (state : CoreSta
   pub stands : Stands (record world.setting { reach = reach }) last begun
       (map_of world.handed world.opening items) contents (calls_under_way clients) commit state
   pub theirs : IsTheirs clients commit
-  pub each : (index : ℕ) (client : Client) (under : UnderWay) → IsGoing clients index client under
-      → IsClient world script items item begun (contents index) index client under
-  pub attaches : (index : ℕ) (client : Client) (under : UnderWay) (run : AttachRun) → IsGoing clients index client under
-      → under.work ≡ work.Attach run
-      → HoldsAttach (record world.setting { reach = reach }) last begun state.disk run
+  pub each : ClientsAreGoing world script items item begun contents clients
+  pub attaches : HoldAttaches (record world.setting { reach = reach }) last begun state.disk clients
 
 -- the setting of what stands: the pool reaches as far as it does by now
 abbrev pub setting_now : {world : World} {script : Script} {past : Past} {state : CoreState} {items : List Item}

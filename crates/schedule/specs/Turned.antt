@@ -219,8 +219,8 @@ listed_on widths items at None = items
 listed_on widths items at (Some number) = items ++ Group (group_with widths at number) ∷ []
 
 -- No call that a journal tells more of was answered so.
-abbrev pub ListsNone : Answer → List Item → List Item → Type 0
-ListsNone given old new =
+abbrev pub AnswersNoneWith : Answer → List Item → List Item → Type 0
+AnswersNoneWith given old new =
     (index : ℕ) (entry : Entry) → length old ≤ index → CallAt new index entry → entry.answer ≡ given → ⊥
 
 -- ---- a turn

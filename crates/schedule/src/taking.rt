@@ -12,7 +12,8 @@ ghost use Rattle.schedule.specs.Playing.{MakesRoom, UsesRoom, owed, taken_for};
 ghost use Rattle.core_state.specs.declared.answer.Answer.TheVariants as answer;
 ghost use Rattle.schedule.specs.Computing.{FitsWork, IsComputedFor, IsComputedOf, for_call};
 ghost use Rattle.schedule.specs.Turned.{GoesOnBy, HasDeviceFor, HasDeviceForTurn, HasDeviceUnder, MayGoOn, Turned};
-ghost use Rattle.schedule.specs.Turned.{ListsNone, WorkGoesOn, entry_for, group_by, group_with, listed_on, listed_with};
+ghost use Rattle.schedule.specs.Turned.{AnswersNoneWith, WorkGoesOn, entry_for, group_by, group_with};
+ghost use Rattle.schedule.specs.Turned.{listed_on, listed_with};
 ghost use Rattle.schedule.specs.Turned.{turn_state};
 ghost use Rattle.schedule.specs.Works.{begun_at, commit_in};
 
@@ -215,7 +216,7 @@ pub fn take_turn<B: Bank>(
     // What was computed for the call under way is taken: it is not answered then that there is no memory.
     ensures taken { (under : UnderWayOf) → client.old.under_way ≡ Some under
         → FitsWork under.work (for_call (client.old.begun - 1) computed)
-        → ListsNone answer.NoMemory journal.old.items journal.new.items }
+        → AnswersNoneWith answer.NoMemory journal.old.items journal.new.items }
 {
     // That the core is one is known by a call of it.
     let _ = core.reflow();

@@ -2,7 +2,11 @@
 use Rattle.schedule.proofs.Words.{◌≡◌, ◌⊎◌, ⊎_elim, ℕ, zero, suc, ◌+◌, length, List, [], ◌∷◌, ◌++◌, Option, Some, None}
 use Rattle.schedule.proofs.Words.{refl, ap, subst, sym, ◌∙◌, UnderWay, entry_for}
 use Rattle.schedule.specs.declared.computing.Computed.{Computed}
-use Rattle.schedule.specs.Computing.{FitsWork}
+use Rattle.schedule.specs.declared.computing.Computed.TheVariants as computed
+use Rattle.schedule.specs.declared.computing.ToCompute.{ToCompute}
+use Rattle.schedule.specs.declared.computing.ToCompute.TheVariants as to_compute
+use Rattle.core_turns.specs.declared.solving.ToSolve.{ToSolve}
+use Rattle.schedule.specs.Computing.{FitsWork, IsAskedOf, IsComputed, for_call}
 use Rattle.schedule.proofs.Words.{arith, IsTrue, is_some, false≢true, Disk, Unchanged, rows_of, Uber, OnlyFailedGoOut}
 use Rattle.schedule.proofs.Words.{point_of, read_touches, ScriptCall, fill_bytes, pattern_from, AttachRun, CopyRound}
 use Rattle.schedule.proofs.Words.{IsMoreAttach, StepsAttach, IsMoreRound, StepsCopy, GetRun, ToFill, Blocks, IsUnderWay}
@@ -10,7 +14,7 @@ use Rattle.schedule.proofs.Words.{PutRun, Turn, Done, Core, CoreState, at_disk, 
 use Rattle.schedule.proofs.Words.{ReadsTurn, SolvesGet, EndsGet, IsFillable, IsPutOf, FillsPut, EndsPut, GivesUpTurn}
 use Rattle.schedule.proofs.Words.{left_to_fill, to_fill_of, TurnGoesOn, reads_reaching, fills_of, Work, MakesRoom}
 use Rattle.schedule.proofs.Words.{taken_for, BeginsCall, GoesOnBy, IsFilledIn, MayGoOn, PutGoesOn, WritesOn, ReadGoesOn}
-use Rattle.schedule.proofs.Words.{WorkGoesOn, MapsTurn, made_in}
+use Rattle.schedule.proofs.Words.{WorkGoesOn, MapsTurn, made_in, inl, inr, nat_tests}
 use Rattle.std.specs.Prelude.{◌≤◌, IfSome}
 use Rattle.std.specs.Global.{Box}
 use Rattle.std.proofs.lemmas.Bool.{cases_lt}
@@ -24,7 +28,7 @@ use Rattle.core_state.specs.declared.item.Item.TheVariants.{Group, Call as CallI
 use Rattle.core_state.specs.Legal.{CallAt}
 use Rattle.reflow_mark.specs.declared.reflow.Reflow.{Reflow}
 use Rattle.journal_law.proofs.Grown.{new_or_before}
-use Rattle.schedule.specs.Turned.{ListsNone, group_by, group_with, listed_of, listed_with}
+use Rattle.schedule.specs.Turned.{AnswersNoneWith, group_by, group_with, listed_of, listed_with}
 use Rattle.core_state.specs.declared.answer.Answer.{Answer}
 use Rattle.core_state.specs.declared.answer.Answer.TheVariants as answer
 use Rattle.schedule.specs.declared.client.Work.TheVariants as work
@@ -227,11 +231,21 @@ listed_alone widths items at entry (Some number) index other past there = ⊎_el
 
 pub lists_none : (widths : Reflow) (items : List Item) (at : ℕ) (entry : Entry) (made : Option ℕ) {listed : List Item}
     {given : Answer} → listed ≡ listed_with widths items at entry made entry.answer → (entry.answer ≡ given → ⊥)
-    → ListsNone given items listed
+    → AnswersNoneWith given items listed
 lists_none widths items at entry made {given = given} listed_is other index call past there is =
     other (subst (λ (e : Entry). e.answer ≡ given)
     (listed_alone widths items at entry (group_by entry.answer made) index call past
     (subst (λ (l : List Item). CallAt l index call) listed_is there)) is)
+
+-- Law: What was computed as a call asked for it fits the call, unless nothing was.
+pub computed_fits : (number : ℕ) (does : Work) (asked : ToCompute) (given : Computed) → IsAskedOf number does asked
+    → IsComputed asked given
+    → (given ≡ computed.Nothing) ⊎ FitsWork does (for_call number given)
+computed_fits number does asked computed.Nothing asks is = inl refl
+computed_fits number (work.Put run) asked (computed.Filled other made) asks is = inr (grind (arith, nat_tests))
+computed_fits number (work.Read run) (to_compute.Solve block) (computed.Solved from) asks is =
+    inr (subst (λ (b : ToSolve). IsAlike b (to_solve_of run)) (sym is) asks.1)
+computed_fits number does asked given asks is = grind arith
 
 -- Where what was computed fits the call under way, it is not answered that there is no memory.
 pub taken_lists : (widths : Reflow) (items : List Item) (at : ℕ) (entry : Entry) (made : Option ℕ) {listed : List Item}
@@ -240,7 +254,7 @@ pub taken_lists : (widths : Reflow) (items : List Item) (at : ℕ) (entry : Entr
     → listed ≡ listed_with widths items at entry made entry.answer → entry ≡ entry_for call actor number began given
     → result ≡ Some given → way ≡ Some its → way ≡ Some under → used ≡ fitting
     → (FitsWork its.work used → result ≡ Some answer.NoMemory → ⊥) → FitsWork under.work fitting
-    → ListsNone answer.NoMemory items listed
+    → AnswersNoneWith answer.NoMemory items listed
 taken_lists widths items at entry made call began {its = its} {under = under} {fitting = fitting} listed_is entry_is
     result_is its_is under_is same taken fits = lists_none widths items at entry made listed_is (λ told.
     taken (rw same (subst (λ (u : UnderWay). FitsWork u.work fitting) (some_is (sym under_is ∙ its_is)) fits))

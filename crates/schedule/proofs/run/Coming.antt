@@ -5,7 +5,7 @@ use Rattle.schedule.proofs.Words.{later_trans, touches_then, touches_widen, coun
 use Rattle.schedule.proofs.Words.{Item, CallAt, World, point_of, outs_then, IsOnInUse, in_use_before, count_grows}
 use Rattle.schedule.proofs.Words.{WhyDropped, ScriptCall, Script, calls_of, grown_has, CoreState, HasBankOf}
 use Rattle.schedule.proofs.Words.{AttachGoesOn, TurnGoesOn, as_attach, turn_bank, turn_still, append-nil, AttachesNone}
-use Rattle.schedule.proofs.Words.{GoesOnFor, HasToBear, IsWorldOf, LeadTo, StoodAt, KeepsUsing, StaysAsWide, Turns}
+use Rattle.schedule.proofs.Words.{GoesOnFor, HasToBear, IsWorldOf, LeadTo, IsRunFrom, KeepsUsing, StaysAsWide, Turns}
 use Rattle.schedule.proofs.Words.{TurnTaken, last_left}
 use Rattle.schedule.proofs.Words.{AreListedWith, HasDropCause, IsDropCause, IsToBeTold, IsDeviceCause, IsNumbered, Runs}
 use Rattle.schedule.proofs.Words.{Past}
@@ -206,8 +206,8 @@ module _ (script : Script) (start middle now : Turns) (one two : List TurnTaken)
       }) (search (cases_lt, arith))
 
   -- What stood at the start stood for the first turns,
-  stood_first : {world : World} {past : Past} → StoodAt script start (one ++ two) both.borne world past
-      → StoodAt script start one first.borne world past
+  stood_first : {world : World} {past : Past} → IsRunFrom script start (one ++ two) both.borne world past
+      → IsRunFrom script start one first.borne world past
   stood_first {world = world} {past = past} at = record {
     world_of = at.world_of;
     stood = at.stood;
@@ -216,8 +216,8 @@ module _ (script : Script) (start middle now : Turns) (one two : List TurnTaken)
   }
 
   -- and stands where these led to, for the second.
-  stood_second : {world : World} {past : Past} → StoodAt script start (one ++ two) both.borne world past
-      → StoodAt script middle two second.borne world past
+  stood_second : {world : World} {past : Past} → IsRunFrom script start (one ++ two) both.borne world past
+      → IsRunFrom script middle two second.borne world past
   stood_second {world = world} {past = past} at = record {
     world_of = at.world_of;
     stood = first.stands.runs world past (stood_first at);

@@ -10,7 +10,7 @@ use Rattle.schedule.proofs.Words.{KeepsLast, NoSpaceIsCaused, BeginsAfter, first
 use Rattle.schedule.proofs.Words.{CoreState, at_disk, Client, Ended, Whole, NoMemory, Limit, FullIsCaused, LeadTo}
 use Rattle.schedule.proofs.Words.{HasDropCause, IsDropCause, FitsCall, FitsSince, turns_of, TurnTaken, Turns, bank_when}
 use Rattle.schedule.proofs.Words.{Cursor, InOrder, HaveTaken, Replay, replay_at, Past, EndsAs, blank_clients, Runs, Ran}
-use Rattle.schedule.proofs.Words.{HasRun, HasRunInTurn, HasTakenTurns, RunKeeps, StoodAt, first_turns}
+use Rattle.schedule.proofs.Words.{HasRun, HasRunInTurn, HasTakenTurns, RunKeeps, IsRunFrom, first_turns}
 use Rattle.std.proofs.Common.{true}
 use Rattle.core_state.specs.declared.item.Group.{Group as GroupItem}
 use Rattle.core_open.specs.Opens.{HasBank}
@@ -88,7 +88,7 @@ module _ {script : Script} {old mid : Disk} {pool : Pool} {silent : ℕ} {items 
     first_runs = runs_first (asked_by script) (handed_by script) begins may.may.parity past refl
         (at_start first_state passed (omega arith)) opened_later bank script script.clients
 
-    stood : StoodAt script first_state passed come.borne world past
+    stood : IsRunFrom script first_state passed come.borne world past
     stood = record {
       world_of = record { calls = refl; handed = refl };
       stood = first_runs;
