@@ -3,6 +3,7 @@
 # that lie side by side in one call.
 command -v strace >/dev/null || { echo 'ok calls are passed over: there is no strace'; exit 0; }
 strace -o /dev/null true 2>/dev/null || { echo 'ok calls are passed over: strace may not trace here'; exit 0; }
+[ ! -w /dev/shm ] || export TMPDIR=/dev/shm # there syncs take no time, so that none is begun beside another
 . "$(dirname "$0")/build.sh"
 
 # traced CALL..: the calls on files of a run, as words: `read disk1 192 4` is a read of 4 sectors from 192 on. A call that

@@ -9,3 +9,4 @@ pub mod Ahead
 pub mod MemRows
 pub mod Finished
 pub mod Untold
+pub mod Begun

@@ -411,6 +411,12 @@ kept_written_at file first now last sector row items kept laws above at same one
     (by_moment kept.moment (with_row file n items)) kept.moment sector kept.bytes (Ok tt)) (sym same)
     (kept_written file first last sector row items kept laws above at one_more)
 
+-- A sync behind a call that changed nothing.
+pub settled_same : (file mid new : Contents) (moment : ℕ) (result : Result (Unit {0}) Failed) → mid ≡ file
+    → Settled mid new moment result → Settled file new moment result
+settled_same file mid new moment result same settled =
+    subst (λ (c : Contents). Settled c new moment result) same settled
+
 pub synced_kept : (old file new : Contents) (first last moment : ℕ) (items : List KeptSector)
     (result : Result (Unit {0}) Failed) → items ≡ []
     → TellsSame old (by_moment last (with_row file first items)) → LawfulFile old → LawfulFile file

@@ -39,3 +39,9 @@ pub record FailsBelow (was_stuck stuck : Bool) (before now : ℕ) (result : Resu
   pub stays : was_stuck ≡ true → (stuck ≡ true) × (now ≡ before)
   pub failed : OnErr result ((was_stuck ≡ true) ⊎ (now ≡ counted before))
   pub well : OnOk result ((stuck ≡ false) × (now ≡ before))
+
+-- A file gets stuck only where a call on the file below has failed, once, and stays so.
+pub record CountsStuck (was_stuck stuck : Bool) (before now : ℕ) : Type 0 where
+  pub stays : was_stuck ≡ true → stuck ≡ true
+  pub failed : was_stuck ≡ false → stuck ≡ true → now ≡ counted before
+  pub well : stuck ≡ was_stuck → now ≡ before

@@ -1,5 +1,5 @@
 -- A file in memory as contracts see it.
-use Rattle.std.specs.Prelude.{◌≡◌, ℕ, List, Contains}
+use Rattle.std.specs.Prelude.{◌≡◌, ℕ, List, Contains, Option, Some, None, if◌then◌else◌}
 use Rattle.bank_trait.specs.Causes.{counted}
 use Rattle.file_bank.specs.BlockFile.{Contents}
 use Rattle.file_bank.specs.Record.{contents_of}
@@ -8,6 +8,10 @@ use Rattle.file_bank.specs.declared.mem_file.MemFile.{MemFile}
 -- what it holds
 abbrev pub file_of : MemFile → Contents
 file_of file = contents_of file.first.items file.present.items file.calls.items file.last
+
+-- what it held when a sync was begun
+abbrev pub file_begun : MemFile → Option Contents
+file_begun file = if file.begun then Some (file_of file) else None
 
 -- how often a call has failed
 abbrev pub faults_of : MemFile → ℕ

@@ -13,6 +13,10 @@ ahead_contents contents ahead = contents ahead.file
 abbrev pub ahead_faults : {F : Type 0} {b : _} → (F → ℕ) → ReadAhead F b → ℕ
 ahead_faults faults ahead = faults ahead.file
 
+-- what the file below held when a sync was begun
+abbrev pub ahead_begun : {F : Type 0} {b : _} → (F → Option Contents) → ReadAhead F b → Option Contents
+ahead_begun begun_with ahead = begun_with ahead.file
+
 -- Nothing that was read before is there.
 abbrev pub RemembersNone : {F : Type 0} {b : _} → ReadAhead F b → Type 0
 RemembersNone ahead = HoldsNone ahead.piece

@@ -7,7 +7,9 @@ use crate::gathered::Gathered;
 use crate::opened::{finish_file, forget_file};
 use crate::read_ahead::ReadAhead;
 use crate::row_file::RowFile;
-use crate::slot::{SECTOR_BYTES, read_sector, sync_file, write_sector};
+use crate::slot::{
+    SECTOR_BYTES, begin_sync_of, has_begun_sync, read_sector, sync_file, write_sector,
+};
 use bank_trait::{Bank, Failed};
 
 /// A file that could not be opened fails all its calls, and so does a sector past a file's end: no file
@@ -78,7 +80,10 @@ fn latest_of<F: BlockFile>(files: &[Option<F>]) -> u64
 }
 
 impl<F: BlockFile> FileBank<F> {
-    ghost use Rattle.file_bank.specs.FileBank.{disk_of, file_faults};
+    ghost use Rattle.std.specs.Prelude.{◌↔◌};
+    ghost use Rattle.bank_trait.specs.Causes.{NoneFailed};
+    ghost use Rattle.bank_trait.specs.Disk.{Unchanged};
+    ghost use Rattle.file_bank.specs.FileBank.{LacksFile, disk_of, file_faults};
     ghost use Rattle.file_bank.specs.Files.{HasLongestSectors, all_faults, as_bank};
 
     /// The bank has as many sectors as the longest file has whole ones, at most `most`; where none could
@@ -99,6 +104,36 @@ impl<F: BlockFile> FileBank<F> {
             faults,
             sectors,
             clock,
+        }
+    }
+
+    /// May begin a sync of a device, which its next sync ends.
+    fn begin_sync(&mut self, number: usize)
+        requires { number < length self.old.files.items }
+        ensures unchanged { Unchanged (disk_of F.contents self.old) (disk_of F.contents self.new) }
+        ensures counts { NoneFailed (disk_of F.contents self.old).faults (disk_of F.contents self.new).faults }
+        ensures file_faults { NoneFailed (file_faults F.faults self.old) (file_faults F.faults self.new) }
+        ensures lacks { (device : ℕ) → LacksFile self.new device ↔ LacksFile self.old device }
+    {
+        begin_sync_of(&mut self.files[number]);
+    }
+
+    /// Where the sync of this device was not begun before, a round of syncs begins with it: those of the others may be
+    /// begun, so that they take their time beside this one. A device of which a call has failed is left alone.
+    fn begin_round(&mut self, first: usize)
+        requires { first < length self.old.files.items }
+        ensures unchanged { Unchanged (disk_of F.contents self.old) (disk_of F.contents self.new) }
+        ensures counts { NoneFailed (disk_of F.contents self.old).faults (disk_of F.contents self.new).faults }
+        ensures file_faults { NoneFailed (file_faults F.faults self.old) (file_faults F.faults self.new) }
+        ensures lacks { (device : ℕ) → LacksFile self.new device ↔ LacksFile self.old device }
+    {
+        if has_begun_sync(&self.files[first]) {
+            return;
+        }
+        for number in 0..self.files.len() {
+            if number != first && self.faults[number] == 0 {
+                self.begin_sync(number);
+            }
         }
     }
 
@@ -251,7 +286,7 @@ impl<F: BlockFile> Bank for FileBank<F> {
     }
 
     /// A sync fails where the file could not be opened or no moment is left, and else only where the file's
-    /// count of faults rose.
+    /// count of faults rose. Syncs of other devices may be begun beside it.
     fn sync(&mut self, device: u32) -> Result<(), Failed>
         requires { device < (disk_of F.contents self.old).devices }
         ensures synced { Synced (disk_of F.contents self.old) (disk_of F.contents self.new) device result }
@@ -261,6 +296,7 @@ impl<F: BlockFile> Bank for FileBank<F> {
             (file_faults F.faults self.new) device }
     {
         let number = device as usize;
+        self.begin_round(number);
         let Some(moment) = self.clock.checked_add(1) else {
             note(&mut self.faults, number, Err(Failed));
             return Err(Failed);

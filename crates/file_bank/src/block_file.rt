@@ -1,6 +1,7 @@
 // A file of sectors of 512 bytes.
 ghost use Rattle.std.specs.Prelude.{◌≡◌, ◌+◌, ◌/◌, ◌%◌, ◌<◌, ◌≤◌, ℕ, length, IfOk};
 ghost use Rattle.file_bank.specs.BlockFile.{Contents, CountsFault, GivesBytes, Written, Settled, LawfulFile};
+ghost use Rattle.file_bank.specs.Row.{TellsSame};
 
 use bank_trait::Failed;
 
@@ -52,6 +53,19 @@ pub trait BlockFile {
         requires { (contents self.old).last < moment }
         ensures settled { Settled (contents self.old) (contents self.new) moment result }
         ensures counts { CountsFault (faults self.old) (faults self.new) result };
+
+    /// Whether a sync was begun that has not ended.
+    fn has_begun_sync(&self) -> bool {
+        false
+    }
+
+    /// May begin to make durable what is read, beside other calls. Nothing that is told changes: how it goes is told
+    /// by the next `sync`.
+    fn begin_sync(&mut self)
+        ensures same { TellsSame (contents self.old) (contents self.new) }
+        ensures last { (contents self.new).last ≡ (contents self.old).last }
+        ensures faults { faults self.new ≡ faults self.old }
+    {}
 
     ghost lawful: { (file : Self) → LawfulFile (contents file) };
 }

@@ -1,6 +1,7 @@
 // A file whose writes are kept until several that lie side by side are handed over together.
 ghost use Rattle.std.specs.Prelude.{◌≡◌, ◌+◌, ◌*◌, ◌/◌, ◌%◌, ◌^◌, ◌<◌, ◌≤◌, ℕ, List, [], length, false, true};
-ghost use Rattle.std.specs.Prelude.{OnOk, OnErr, IfOk};
+ghost use Rattle.std.specs.Prelude.{OnOk, OnErr, IfOk, Option, Some, None};
+ghost use Rattle.file_bank.specs.declared.gathered.Begun.TheVariants.{Whole};
 ghost use Rattle.file_bank.specs.BlockFile.{CountsFault, GivesBytes, Written, Settled};
 ghost use Rattle.file_bank.specs.KeptRow.{sectors_kept};
 ghost use Rattle.file_bank.specs.Row.{AllKeptBy, HasRisingMoments, TellsSame};
@@ -13,6 +14,14 @@ use crate::row_file::RowFile;
 use bank_trait::Failed;
 use std::alloc::{AllocError, Global};
 
+/// What was handed over since a sync was begun early.
+#[derive(Clone, Copy)]
+enum Begun {
+    /// Nothing: it makes all durable that the file below holds.
+    Whole,
+    Late,
+}
+
 /// A write is kept. What is kept is handed over before a write elsewhere, before the 65th sector, and before a sync.
 /// Where that fails the file is stuck: what was not handed over stays kept, and each later write and sync fails.
 #[derive(Drop)]
@@ -22,6 +31,8 @@ pub struct Gathered<F: RowFile> {
     /// The moment of the last write or sync.
     last: u64,
     stuck: bool,
+    /// The sync that was begun early, where one has not ended.
+    begun: Option<Begun>,
     faults: u64,
     ghost paced: { (F.contents file).last ≤ last },
     ghost by: { AllKeptBy last (sectors_kept kept) } by { kept_by_prop last (sectors_kept kept) },
@@ -29,6 +40,7 @@ pub struct Gathered<F: RowFile> {
         → HasRisingMoments (F.contents file).last (sectors_kept kept) } by { λ one other i free.
             rising_prop (F.contents file).last (sectors_kept kept) (one free) (other free) i },
     ghost inside: { 512 * (kept.first + length kept.sectors.items) ≤ (F.contents file).length },
+    ghost begun_with: { begun ≡ Some Whole → F.begun_with file ≡ Some (F.contents file) },
 }
 
 impl<F: RowFile> Gathered<F> {
@@ -52,6 +64,7 @@ impl<F: RowFile> Gathered<F> {
             kept,
             last,
             stuck: false,
+            begun: None,
             faults: 0,
         })
     }
@@ -66,10 +79,12 @@ impl<F: RowFile> Gathered<F> {
         ensures free { OnOk result (self.new.stuck ≡ false) }
         ensures stuck { OnErr result (self.new.stuck ≡ true) }
         ensures below { CountsFault (F.faults self.old.file) (F.faults self.new.file) result }
+        ensures begun { self.old.begun ≡ None → self.new.begun ≡ None }
     {
         if self.kept.sectors.is_empty() {
             return Ok(());
         }
+        self.begun = self.begun.map(|_| Begun::Late);
         let first = self.kept.first;
         match self
             .file
@@ -159,7 +174,32 @@ impl<F: RowFile> Gathered<F> {
         }
         self.hand_over()?;
         self.last = moment;
-        self.file.sync(moment)
+        match self.begun.take() {
+            None => self.file.sync(moment),
+            Some(Begun::Whole) => self.file.end_sync(moment),
+            Some(Begun::Late) => {
+                self.file.end_late_sync(moment)?;
+                self.file.sync(moment)
+            }
+        }
+    }
+
+    /// Hands over what is kept and begins a sync, where it is worth it.
+    fn begin(&mut self) -> Result<(), Failed>
+        requires free { self.old.stuck ≡ false }
+        requires none { self.old.begun ≡ None }
+        ensures same { TellsSame (told_of F.contents self.old) (told_of F.contents self.new) }
+        ensures last { self.new.last ≡ self.old.last }
+        ensures faults { self.new.faults ≡ self.old.faults }
+        ensures stuck { OnErr result (self.new.stuck ≡ true) }
+        ensures free { OnOk result (self.new.stuck ≡ false) }
+        ensures below { CountsFault (F.faults self.old.file) (F.faults self.new.file) result }
+    {
+        self.hand_over()?;
+        if self.file.begin_sync() {
+            self.begun = Some(Begun::Whole);
+        }
+        Ok(())
     }
 
     /// Hands over what is kept, at the end of a run. Nothing that is told changes.
@@ -196,8 +236,8 @@ impl<F: RowFile> Gathered<ReadAhead<F>> {
 }
 
 impl<F: RowFile> BlockFile for Gathered<F> {
-    ghost use Rattle.file_bank.specs.Gathered.{FailsBelow, told_of, gathered_faults, faults_below, is_stuck};
-    ghost use Rattle.file_bank.specs.Gathered.{not_handed_over};
+    ghost use Rattle.file_bank.specs.Gathered.{CountsStuck, FailsBelow, told_of, gathered_faults, faults_below};
+    ghost use Rattle.file_bank.specs.Gathered.{is_stuck, not_handed_over};
     ghost use Rattle.file_bank.specs.RowLaws.{gathered_lawful};
 
     ghost contents = { told_of F.contents };
@@ -264,5 +304,23 @@ impl<F: RowFile> BlockFile for Gathered<F> {
     {
         let outcome = self.sync_all(moment);
         count_call(&mut self.faults, outcome)
+    }
+
+    fn has_begun_sync(&self) -> bool {
+        self.begun.is_some()
+    }
+
+    /// Where syncs take long, and none was begun, what is kept is handed over and a sync is begun. Where the hand-over
+    /// fails the file is stuck, and its next sync fails.
+    fn begin_sync(&mut self)
+        ensures same { TellsSame (told_of F.contents self.old) (told_of F.contents self.new) }
+        ensures last { (told_of F.contents self.new).last ≡ (told_of F.contents self.old).last }
+        ensures faults { gathered_faults self.new ≡ gathered_faults self.old }
+        ensures below { CountsStuck (is_stuck self.old) (is_stuck self.new) (faults_below F.faults self.old)
+            (faults_below F.faults self.new) }
+    {
+        if !self.stuck && self.begun.is_none() && self.file.is_slow() {
+            let _ = self.begin();
+        }
     }
 }

@@ -2,8 +2,9 @@
 //!
 //! `BlockFile` says what one file holds and what a crash may leave of it; `FileBank` makes a bank of
 //! several, with one clock, and is proved to be the bank that its files are together. Which byte of
-//! which file a sector begins at is decided and proved here. `MemFile` is a file in memory, for tests.
-//! Read `specs/BlockFile.antt`, then `specs/Files.antt`. Stands on `bank_trait`.
+//! which file a sector begins at is decided and proved here. Syncs of several files may overlap.
+//! `MemFile` is a file in memory, for tests. Read `specs/BlockFile.antt`, then `specs/Files.antt`. Stands
+//! on `bank_trait`.
 #![tactic(auto)]
 
 mod bank;

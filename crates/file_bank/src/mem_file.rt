@@ -20,6 +20,9 @@ pub struct MemFile {
     /// The most bytes that a read gives, one at least.
     piece: usize,
     plan: Plan,
+    slow: bool,
+    /// A sync was begun, and nothing was written since.
+    begun: bool,
     ghost few: { length present.items < 2 ^ 32 },
     ghost by: { AllBy last calls.items },
     ghost same: { LeadsToSectors first.items last calls.items present.items },
@@ -73,7 +76,21 @@ impl MemFile {
                 faults: 0,
                 fails: Vec::from_slice(alloc, fails)?,
             },
+            slow: false,
+            begun: false,
         })
+    }
+
+    /// The same file, whose syncs are said to take long.
+    pub fn slow(mut self) -> MemFile
+        ensures same { file_of result ≡ file_of self }
+        ensures faults { faults_of result ≡ faults_of self }
+        ensures made { calls_made result ≡ calls_made self }
+        ensures listed { listed_calls_of result ≡ listed_calls_of self }
+        ensures piece { piece_of result ≡ piece_of self }
+    {
+        self.slow = true;
+        self
     }
 }
 
@@ -81,7 +98,8 @@ impl BlockFile for MemFile {
     ghost use Rattle.std.specs.Prelude.{◌+◌, ◌/◌, ◌%◌, ◌≤◌, OnOk, OnErr, min};
     ghost use Rattle.bank_trait.specs.Causes.{counted};
     ghost use Rattle.file_bank.specs.BlockFile.{CountsFault, GivesBytes, Written, Settled};
-    ghost use Rattle.file_bank.specs.MemFile.{file_of, faults_of, piece_of, calls_made, OneCallMade, FailsNextOn};
+    ghost use Rattle.file_bank.specs.MemFile.{file_begun, file_of, faults_of, piece_of, calls_made, OneCallMade};
+    ghost use Rattle.file_bank.specs.MemFile.{FailsNextOn};
     ghost use Rattle.file_bank.specs.MemLaws.{lawful};
     ghost use Rattle.file_bank.specs.Row.{TellsSame, kept_sector, with_sector};
 
@@ -113,6 +131,7 @@ impl BlockFile for MemFile {
         ensures listed { OnOk result (FailsNextOn self.old → ⊥) }
         ensures only_listed { OnErr result (FailsNextOn self.old) }
         ensures made { OneCallMade self.old self.new }
+        ensures begun { file_begun self.new ≡ file_begun self.old }
     {
         if self.plan.fails_now() {
             return Err(ReadFault::Failed);
@@ -138,6 +157,7 @@ impl BlockFile for MemFile {
         ensures last { OnOk result ((file_of self.new).last ≡ moment) }
         ensures none { OnErr result (file_of self.new ≡ file_of self.old) }
     {
+        self.begun = false;
         if self.plan.fails_now() {
             return Err(Failed);
         }
@@ -168,6 +188,7 @@ impl BlockFile for MemFile {
         ensures listed { OnOk result (FailsNextOn self.old → ⊥) }
         ensures made { OneCallMade self.old self.new }
     {
+        self.begun = false;
         if self.plan.fails_now() {
             return Err(Failed);
         }
@@ -182,12 +203,14 @@ impl BlockFile for MemFile {
 
 /// A row is written sector by sector, and each of these calls has its number. It is read in one call.
 impl RowFile for MemFile {
-    ghost use Rattle.file_bank.specs.MemFile.{file_of, faults_of};
+    ghost use Rattle.file_bank.specs.MemFile.{file_begun, file_of, faults_of};
     ghost use Rattle.file_bank.specs.MemLaws.{lawful};
 
     ghost contents = { file_of };
 
     ghost faults = { faults_of };
+
+    ghost begun_with = { file_begun };
 
     ghost lawful = { λ file. lawful file.first.items file.present.items file.calls.items
         file.last file.by file.same file.whole };
@@ -226,5 +249,22 @@ impl RowFile for MemFile {
 
     fn sync(&mut self, moment: u64) -> Result<(), Failed> {
         BlockFile::sync(self, moment)
+    }
+
+    fn is_slow(&self) -> bool {
+        self.slow
+    }
+
+    fn begin_sync(&mut self) -> bool {
+        self.begun = self.slow;
+        self.slow
+    }
+
+    /// It is a call with a number, which fails where it is listed.
+    fn end_late_sync(&mut self, _moment: u64) -> Result<(), Failed> {
+        if self.plan.fails_now() {
+            return Err(Failed);
+        }
+        Ok(())
     }
 }

@@ -24,7 +24,7 @@ pub struct ReadAhead<F: RowFile> {
 }
 
 impl<F: RowFile> ReadAhead<F> {
-    ghost use Rattle.file_bank.specs.ReadAhead.{RemembersNone, ahead_contents, ahead_faults};
+    ghost use Rattle.file_bank.specs.ReadAhead.{RemembersNone, ahead_begun, ahead_contents, ahead_faults};
 
     /// A file of which nothing was read. Only here may memory lack.
     pub fn new(alloc: Global, file: F) -> Result<ReadAhead<F>, AllocError>
@@ -46,6 +46,7 @@ impl<F: RowFile> ReadAhead<F> {
     pub fn forget(&mut self)
         ensures same { ahead_contents F.contents self.new ≡ ahead_contents F.contents self.old }
         ensures faults { ahead_faults F.faults self.new ≡ ahead_faults F.faults self.old }
+        ensures begun { ahead_begun F.begun_with self.new ≡ ahead_begun F.begun_with self.old }
         ensures none { RemembersNone self.new }
     {
         self.piece.clear();
@@ -56,6 +57,7 @@ impl<F: RowFile> ReadAhead<F> {
     fn look_ahead(&mut self, sector: u64)
         ensures same { F.contents self.new.file ≡ F.contents self.old.file }
         ensures faults { F.faults self.new.file ≡ F.faults self.old.file }
+        ensures begun { F.begun_with self.new.file ≡ F.begun_with self.old.file }
     {
         if self.next != Some(sector) || self.piece.has(sector) {
             return;
@@ -78,11 +80,13 @@ impl<F: RowFile> ReadAhead<F> {
 }
 
 impl<F: RowFile> RowFile for ReadAhead<F> {
-    ghost use Rattle.file_bank.specs.ReadAhead.{ahead_contents, ahead_faults};
+    ghost use Rattle.file_bank.specs.ReadAhead.{ahead_begun, ahead_contents, ahead_faults};
 
     ghost contents = { ahead_contents F.contents };
 
     ghost faults = { ahead_faults F.faults };
+
+    ghost begun_with = { ahead_begun F.begun_with };
 
     ghost lawful = { λ ahead. F.lawful ahead.file };
 
@@ -116,9 +120,27 @@ impl<F: RowFile> RowFile for ReadAhead<F> {
 
     fn sync(&mut self, moment: u64) -> Result<(), Failed> {
         let outcome = self.file.sync(moment);
-        if outcome.is_err() {
-            self.piece.clear();
-        }
+        self.piece.clear_if_failed(outcome);
+        outcome
+    }
+
+    fn is_slow(&self) -> bool {
+        self.file.is_slow()
+    }
+
+    fn begin_sync(&mut self) -> bool {
+        self.file.begin_sync()
+    }
+
+    fn end_sync(&mut self, moment: u64) -> Result<(), Failed> {
+        let outcome = self.file.end_sync(moment);
+        self.piece.clear_if_failed(outcome);
+        outcome
+    }
+
+    fn end_late_sync(&mut self, moment: u64) -> Result<(), Failed> {
+        let outcome = self.file.end_late_sync(moment);
+        self.piece.clear_if_failed(outcome);
         outcome
     }
 }

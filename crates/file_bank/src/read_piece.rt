@@ -1,5 +1,5 @@
 // Sectors side by side that were read in one call.
-ghost use Rattle.std.specs.Prelude.{◌≡◌, ◌+◌, ◌-◌, ◌*◌, ◌/◌, ◌%◌, ◌^◌, ◌<◌, ◌≤◌, ℕ, length, max, IsTrue, IfOk, OnOk};
+ghost use Rattle.std.specs.Prelude.{◌≡◌, ◌+◌, ◌-◌, ◌*◌, ◌/◌, ◌%◌, ◌^◌, ◌<◌, ◌≤◌, ℕ, length, max, IsTrue, IfOk, OnOk, OnErr};
 ghost use Rattle.std.specs.Prelude.{◌↔◌, List, Some};
 ghost use Rattle.file_bank.specs.Row.{GivesRow};
 
@@ -38,6 +38,7 @@ fn read_front<F: RowFile>(
     ensures bytes { OnOk result (GivesRow (F.contents file.old) sector count list.new) }
     ensures same { F.contents file.new ≡ F.contents file.old }
     ensures uncounted { F.faults file.new ≡ F.faults file.old }
+    ensures begun { F.begun_with file.new ≡ F.begun_with file.old }
 {
     file.read_row(sector * 512, &mut list[..count])
 }
@@ -89,6 +90,16 @@ impl ReadPiece {
         self.restart_at(0);
     }
 
+    /// Forgets all behind a sync that failed, which may have changed what stands in the file.
+    pub fn clear_if_failed(&mut self, outcome: Result<(), Failed>)
+        ensures cleared { OnErr outcome (HoldsNone self.new) }
+        ensures same { OnOk outcome (self.new ≡ self.old) }
+    {
+        if outcome.is_err() {
+            self.clear();
+        }
+    }
+
     /// Forgets all, and begins at this sector.
     fn restart_at(&mut self, sector: u64)
         ensures first { self.new.first ≡ sector }
@@ -126,6 +137,7 @@ impl ReadPiece {
         ensures right { IsOf (F.contents file.old) self.new }
         ensures same { F.contents file.new ≡ F.contents file.old }
         ensures uncounted { F.faults file.new ≡ F.faults file.old }
+        ensures begun { F.begun_with file.new ≡ F.begun_with file.old }
     {
         self.restart_at(sector);
         read_front(file, sector, &mut self.sectors, count)?;

@@ -1,5 +1,6 @@
 // A file that takes and gives several sectors side by side in one call.
-ghost use Rattle.std.specs.Prelude.{◌≡◌, ◌+◌, ◌*◌, ◌/◌, ◌%◌, ◌<◌, ◌≤◌, ℕ, length, IfOk, OnOk};
+ghost use Rattle.std.specs.Prelude.{◌≡◌, ◌+◌, ◌*◌, ◌/◌, ◌%◌, ◌<◌, ◌≤◌, ℕ, Option, Some, None, length, IfOk, OnOk};
+ghost use Rattle.std.specs.Prelude.{OnErr, IsTrue};
 ghost use Rattle.file_bank.specs.BlockFile.{Contents, CountsFault, GivesBytes, Settled, LawfulFile};
 ghost use Rattle.file_bank.specs.Row.{GivesRow, HandedOver, HasRisingMoments, kept_row};
 
@@ -18,6 +19,9 @@ pub trait RowFile {
     /// How often a call has failed or was interrupted.
     ghost faults: { Self → ℕ };
 
+    /// What it held when a sync was begun that has not ended. A write may make it anything.
+    ghost begun_with: { Self → Option Contents } = { λ file. None };
+
     /// In bytes. No call changes it.
     fn length(&self) -> u64
         ensures { result ≡ (contents self.now).length };
@@ -34,6 +38,7 @@ pub trait RowFile {
         ensures bound { IfOk result (λ count. (1 ≤ count) × (count ≤ length into.new)) }
         ensures bytes { IfOk result (λ count. GivesBytes (contents self.old) offset count into.new) }
         ensures same { contents self.new ≡ contents self.old }
+        ensures begun { begun_with self.new ≡ begun_with self.old }
         ensures counts { CountsFault (faults self.old) (faults self.new) result };
 
     /// Gives whole sectors side by side, or fails, which is no fault: nobody asked for all of them, and who asked for
@@ -45,6 +50,7 @@ pub trait RowFile {
         requires inside { offset + 512 * length into.old ≤ (contents self.old).length }
         ensures bytes { OnOk result (GivesRow (contents self.old) (offset / 512) (length into.old) into.new) }
         ensures same { contents self.new ≡ contents self.old }
+        ensures begun { begun_with self.new ≡ begun_with self.old }
         ensures uncounted { faults self.new ≡ faults self.old };
 
     /// Writes whole sectors side by side, each with its moment, or fails and tells how many of them it has written,
@@ -65,6 +71,41 @@ pub trait RowFile {
         requires { (contents self.old).last < moment }
         ensures settled { Settled (contents self.old) (contents self.new) moment result }
         ensures counts { CountsFault (faults self.old) (faults self.new) result };
+
+    /// Whether its syncs take so long that it is worth a thread to begin one early.
+    fn is_slow(&self) -> bool {
+        false
+    }
+
+    /// Begins a sync, beside other calls, and tells whether it did. How that sync goes is told where it is ended.
+    fn begin_sync(&mut self) -> bool
+        ensures same { contents self.new ≡ contents self.old }
+        ensures faults { faults self.new ≡ faults self.old }
+        ensures begun { IsTrue result → begun_with self.new ≡ Some (contents self.old) }
+    {
+        false
+    }
+
+    /// Ends the sync that was begun. Nothing was written since, so it does what `sync` does.
+    fn end_sync(&mut self, moment: u64) -> Result<(), Failed>
+        requires later { (contents self.old).last < moment }
+        requires begun { begun_with self.old ≡ Some (contents self.old) }
+        ensures settled { Settled (contents self.old) (contents self.new) moment result }
+        ensures counts { CountsFault (faults self.old) (faults self.new) result }
+    {
+        self.sync(moment)
+    }
+
+    /// Ends a sync that was begun before something was written: that it went well makes nothing durable. One that
+    /// fails is told here, for the system may tell it once alone.
+    fn end_late_sync(&mut self, moment: u64) -> Result<(), Failed>
+        requires { (contents self.old).last < moment }
+        ensures same { OnOk result (contents self.new ≡ contents self.old) }
+        ensures settled { OnErr result (Settled (contents self.old) (contents self.new) moment result) }
+        ensures counts { CountsFault (faults self.old) (faults self.new) result }
+    {
+        Ok(())
+    }
 
     ghost lawful: { (file : Self) → LawfulFile (contents file) };
 }

@@ -1,9 +1,10 @@
 // One sector of one file, which may not have been opened.
 ghost use Rattle.std.specs.Prelude.{◌≡◌, ◌⊎◌, ◌<◌, ◌≤◌, ◌+◌, ◌*◌, ◌/◌, ◌%◌, List, ℕ, Some, None, IfOk, IfErr, OnOk};
-ghost use Rattle.std.specs.Prelude.{OnErr, take};
+ghost use Rattle.std.specs.Prelude.{◌↔◌, OnErr, take};
 ghost use Rattle.bank_trait.specs.Causes.{FaultCounted, HasCause};
 ghost use Rattle.file_bank.specs.BlockFile.{Written, Settled};
 ghost use Rattle.file_bank.specs.Files.{FileEndsBefore, HasFileCause, faults_shown, shown};
+ghost use Rattle.file_bank.specs.Row.{TellsSame};
 
 use crate::block_file::{BlockFile, ReadFault};
 use bank_trait::Failed;
@@ -132,5 +133,25 @@ pub fn sync_file<F: BlockFile>(file: &mut Option<F>, moment: u64) -> Result<(), 
     match file {
         Some(file) => file.sync(moment),
         None => Err(Failed),
+    }
+}
+
+/// Whether a sync of a file was begun that has not ended.
+pub fn has_begun_sync<F: BlockFile>(file: &Option<F>) -> bool {
+    match file {
+        Some(file) => file.has_begun_sync(),
+        None => false,
+    }
+}
+
+/// May begin a sync of a file, where it is there.
+pub fn begin_sync_of<F: BlockFile>(file: &mut Option<F>)
+    ensures same { TellsSame (shown F.contents file.old) (shown F.contents file.new) }
+    ensures last { (shown F.contents file.new).last ≡ (shown F.contents file.old).last }
+    ensures faults { faults_shown F.faults file.new ≡ faults_shown F.faults file.old }
+    ensures lacks { file.new ≡ None ↔ file.old ≡ None }
+{
+    if let Some(file) = file {
+        file.begin_sync();
     }
 }

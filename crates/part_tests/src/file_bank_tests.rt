@@ -2,7 +2,7 @@
 ghost use Rattle.std.specs.Prelude.{◌↔◌, ◌<◌, IsTrue};
 
 use bank_trait::{Bank, Failed};
-use file_bank::{BlockFile, FileBank, MemFile, ReadFault, count_call};
+use file_bank::{BlockFile, FileBank, Gathered, MemFile, ReadFault, count_call};
 use std::alloc::{AllocError, Global};
 use std::test::Fail;
 
@@ -99,8 +99,19 @@ fn sync<B: Bank>(bank: &mut B, device: u32) -> Result<(), Failed> {
     bank.sync(device)
 }
 
-/// How often each of the three devices has failed.
-fn faults(bank: &FileBank<MemFile>) -> [u64; 3] {
+/// Two files whose syncs are begun early. The calls of the second that fail are listed, from 0.
+fn slow_files(alloc: Global, fails: &[u64]) -> Result<FileBank<Gathered<MemFile>>, AllocError> {
+    let mut files = Vec::new(alloc);
+    let first = MemFile::new(alloc, 4, 512, &[])?.slow();
+    files.push(Some(Gathered::new(alloc, first)?))?;
+    let second = MemFile::new(alloc, 4, 512, fails)?.slow();
+    files.push(Some(Gathered::new(alloc, second)?))?;
+    let faults = vec![in alloc; 0; 2]?;
+    Ok(FileBank::new(files, faults, 65_728))
+}
+
+/// How often each of the three devices has failed; `u64::MAX` where there is none.
+fn faults<F: BlockFile>(bank: &FileBank<F>) -> [u64; 3] {
     let mut counts = [u64::MAX; 3];
     for device in 0..3 {
         if has_place(bank, device, 0) {
@@ -216,5 +227,31 @@ fn a_read_that_is_interrupted_goes_on(rt: HostRuntime) -> Result<(), Fail> {
     assert_eq!(rt; read(&mut bank, 0, 3), Ok([7; 512]));
     assert!(rt; has_place(&bank, 0, 0));
     assert_eq!(rt; bank.faults(0), 0);
+    Ok(())
+}
+
+#[test]
+fn a_sync_that_is_begun_early_is_told_by_its_own_device(rt: HostRuntime) -> Result<(), Fail> {
+    // Writes behind the begin, the call of the second file that fails, and how its sync goes. Its first call is the
+    // write that the begin hands over, and what is written behind it is handed over by one call more.
+    let rows = [
+        (false, None, Ok(())),
+        (false, Some(1), Err(Failed)),
+        (true, None, Ok(())),
+        (true, Some(2), Err(Failed)),
+    ];
+    for (writes_on, fails, outcome) in rows {
+        let mut bank = slow_files(rt.alloc(), fails.as_slice())?;
+        assert!(rt; write(&mut bank, 0, 0, 1).is_ok() && write(&mut bank, 1, 0, 2).is_ok());
+        assert_eq!(rt; sync(&mut bank, 0), Ok(()));
+        if writes_on {
+            assert!(rt; write(&mut bank, 1, 2, 3).is_ok());
+        }
+        assert_eq!(rt; sync(&mut bank, 1), outcome, "{writes_on} {fails:?}");
+        let failed = u64::from(outcome.is_err());
+        assert_eq!(rt; faults(&bank), [0, failed, u64::MAX]);
+        assert_eq!(rt; read(&mut bank, 1, 0), Ok([2; 512]));
+        assert_eq!(rt; sync(&mut bank, 1), Ok(()), "it is told once");
+    }
     Ok(())
 }

@@ -2,6 +2,7 @@
 ghost use Rattle.bank_trait.specs.Disk.{Unchanged};
 
 use crate::bank::FileBank;
+use crate::files::Host;
 use crate::notes::{
     note_failed_calls, note_further, note_out, note_taken, note_too_small, note_unknown,
 };
@@ -115,13 +116,13 @@ fn tell_of_run<R: Eprint, B: Bank>(
 
 /// Tells of each image whose calls failed, and what else a user has to know after this ending of a command. Its journal
 /// is not given back answer by answer: the process, which ends, gives all memory back at once.
-pub fn tell_files<R: Eprint>(
+pub fn tell_files<R: Eprint, H: Host>(
     rt: &R,
     alloc: Global,
     names: &[String],
     command: &[String],
     lengths: &[u64],
-    outcome: Outcome<FileBank>,
+    outcome: Outcome<FileBank<H>>,
 ) {
     let mut bank = outcome.bank;
     note_failed_calls(rt, names, lengths, &bank);

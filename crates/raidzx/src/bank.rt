@@ -4,23 +4,33 @@ ghost use Rattle.file_bank.specs.FileBank.{disk_of};
 ghost use Rattle.file_bank.specs.Files.{HasLongestSectors};
 ghost use Rattle.raidzx.specs.Images.{device_contents};
 
-use crate::files::Image;
+use crate::files::{Host, Image, ImageFile};
+use crate::pace::Pace;
 use file_bank::{Gathered, ReadAhead};
 use raidzx_top::MOST_SECTORS;
 use std::alloc::{AllocError, Global};
+use std::sync::Arc;
 
 /// An image whose writes are gathered and whose reads are made ahead.
-pub type DeviceFile = Gathered<ReadAhead<Image>>;
+pub type DeviceFile<R> = Gathered<ReadAhead<ImageFile<R>>>;
 
-pub type FileBank = file_bank::FileBank<DeviceFile>;
+pub type FileBank<R> = file_bank::FileBank<DeviceFile<R>>;
 
-/// The file of a device. All the memory that its calls take is taken here.
-pub fn device_file(alloc: Global, image: Image) -> Result<DeviceFile, AllocError> {
-    Gathered::new(alloc, ReadAhead::new(alloc, image)?)
+/// The file of a device, whose bank syncs at this pace. All the memory that its calls take is taken here, but for that of
+/// threads.
+pub fn device_file<R: Host>(
+    rt: R,
+    alloc: Global,
+    image: Image,
+    pace: &Arc<Pace>,
+) -> Result<DeviceFile<R>, AllocError> {
+    let pace = Arc::try_clone(pace)?;
+    let file = ImageFile::new(rt, alloc, image, pace)?;
+    Gathered::new(alloc, ReadAhead::new(alloc, file)?)
 }
 
 /// The bank whose devices are these files, each opened once.
-pub fn bank_over(files: Vec<Option<DeviceFile>>, faults: Vec<u64>) -> FileBank
+pub fn bank_over<R: Host>(files: Vec<Option<DeviceFile<R>>>, faults: Vec<u64>) -> FileBank<R>
     requires counted { length faults.items ≡ length files.items }
     requires few { length files.items < 2 ^ 32 }
     ensures devices { (disk_of device_contents result).devices ≡ length files.items }

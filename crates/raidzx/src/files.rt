@@ -1,37 +1,46 @@
 // Images as files.
-ghost use Rattle.std.specs.Prelude.{◌≡◌, ◌↔◌, ◌*◌, ◌/◌, ◌≤◌, min, IfErr, IsOk};
+ghost use Rattle.std.specs.Prelude.{◌≡◌, ◌↔◌, ◌*◌, ◌/◌, ◌≤◌, min, IfErr, IfOk, IsOk};
 ghost use Rattle.std.specs.IoError.{error_kind};
 ghost use Rattle.std.specs.declared.io.ErrorKind.TheVariants as kind;
 ghost use Rattle.file_bank.specs.declared.block_file.ReadFault.TheVariants.{Interrupted};
 
+use crate::pace::Pace;
+use crate::told::{Told, sync_beside};
 use bank_trait::Failed;
 use file_bank::{ReadFault, RowFile, SECTOR_BYTES, count_call};
 use raidzx_top::MOST_SECTORS;
+use std::alloc::{AllocError, Global};
 use std::fs::File;
 use std::io::{self, ErrorKind};
 use std::os::unix::fs::FileExt;
+use std::sync::{Arc, Wait};
+use std::thread::Threads;
+use std::time::{Clock, Instant};
 
-/// An open file, how many whole sectors of it may be used, and how many calls on it have failed.
+/// What syncs of images take of the runtime: threads beside which they are made, waits for their ends, and a clock by
+/// which it is seen whether they take long.
+pub trait Host: Threads + Wait + Clock + Drop {}
+
+impl<R: Threads + Wait + Clock + Drop> Host for R {}
+
+/// An open file, and how many whole sectors of it may be used.
 #[derive(Drop)]
 pub struct Image {
     file: File,
     sectors: u64,
-    faults: u64,
     ghost few: { sectors ≤ 65_728 },
 }
 
 impl Image {
-    ghost use Rattle.raidzx.specs.Images.{image_faults, image_sectors};
+    ghost use Rattle.raidzx.specs.Images.{image_sectors};
 
     /// A file of so many bytes: its whole sectors are used, as far as a device may have them.
     pub fn new(file: File, bytes: u64) -> Image
         ensures sectors { image_sectors result ≡ min (bytes / 512) 65_728 }
-        ensures faults { image_faults result ≡ 0 }
     {
         Image {
             file,
             sectors: (bytes / SECTOR_BYTES).min(MOST_SECTORS),
-            faults: 0,
         }
     }
 
@@ -42,20 +51,88 @@ impl Image {
     }
 }
 
-/// A file that is there gives no clause of what it holds, so nothing is told of it: what these calls do is
-/// trusted, and all that is made of them is proved in `file_bank`.
-impl RowFile for Image {
-    ghost use Rattle.file_bank.specs.Lawful.{untold_lawful};
+/// An image as a file of a bank, with the runtime that its syncs take.
+#[derive(Drop)]
+pub struct ImageFile<R> {
+    rt: R,
+    image: Image,
+    /// How many calls on it have failed.
+    faults: u64,
+    /// Something was written since its last sync was made or begun.
+    is_written: bool,
+    /// A sync was begun that has not ended.
+    is_begun: bool,
+    told: Arc<Told>,
+    /// That of all images of its bank.
+    pace: Arc<Pace>,
+}
+
+impl<R: Host> ImageFile<R> {
     ghost use Rattle.raidzx.specs.Images.{image_contents, image_faults, image_sectors};
+
+    pub fn new(
+        rt: R,
+        alloc: Global,
+        image: Image,
+        pace: Arc<Pace>,
+    ) -> Result<ImageFile<R>, AllocError>
+        ensures length { IfOk result (λ file. (image_contents file).length ≡ 512 * image_sectors image) }
+        ensures faults { IfOk result (λ file. image_faults file ≡ 0) }
+    {
+        Ok(ImageFile {
+            rt,
+            image,
+            faults: 0,
+            is_written: false,
+            is_begun: false,
+            told: Arc::new(alloc, Told::new())?,
+            pace,
+        })
+    }
+
+    /// A sync that is made here and now, and measured.
+    fn sync_now(&mut self) -> Result<(), Failed>
+        ensures same { image_contents self.new ≡ image_contents self.old }
+        ensures uncounted { image_faults self.new ≡ image_faults self.old }
+    {
+        self.is_written = false;
+        let began = Instant::now(&self.rt).ok();
+        let outcome = self.image.file.sync_data();
+        self.pace.note_since(&self.rt, began);
+        outcome.map_err(|_| Failed)
+    }
+
+    /// Waits for the end of the sync that was begun, if one was, and tells how it went.
+    fn end_begun(&mut self) -> Result<(), Failed>
+        ensures same { image_contents self.new ≡ image_contents self.old }
+        ensures uncounted { image_faults self.new ≡ image_faults self.old }
+    {
+        if !self.is_begun {
+            return Ok(());
+        }
+        self.is_begun = false;
+        self.told.wait(&self.rt)
+    }
+}
+
+/// A file that is there gives no clause of what it holds, so nothing is told of it: what these calls do is
+/// trusted, and all that is made of them is proved in `file_bank`. Of syncs that are begun early this is trusted: that
+/// one which ended well has made durable all that was written before it was begun, and that one which failed is told at
+/// the call that ends it.
+impl<R: Host> RowFile for ImageFile<R> {
+    ghost use Rattle.file_bank.specs.Lawful.{untold_lawful};
+    ghost use Rattle.raidzx.specs.Images.{image_begun, image_contents, image_faults, image_sectors};
 
     ghost contents = { image_contents };
 
     ghost faults = { image_faults };
 
-    ghost lawful = { λ image. untold_lawful (512 * image_sectors image) };
+    ghost begun_with = { image_begun };
+
+    ghost lawful = { λ file. untold_lawful (512 * image_sectors file.image) };
 
     fn length(&self) -> u64 {
-        self.sectors * SECTOR_BYTES
+        self.image.sectors * SECTOR_BYTES
     }
 
     fn last_moment(&self) -> u64 {
@@ -63,7 +140,7 @@ impl RowFile for Image {
     }
 
     fn read_at(&mut self, offset: u64, into: &mut [u8]) -> Result<usize, ReadFault> {
-        let outcome = match self.file.read_at(into, offset) {
+        let outcome = match self.image.file.read_at(into, offset) {
             Ok(0) => Err(ReadFault::Failed),
             Ok(count) => Ok(count),
             Err(error) => Err(fault_of(error)),
@@ -75,7 +152,7 @@ impl RowFile for Image {
     fn read_row(&mut self, offset: u64, into: &mut [[u8; 512]]) -> Result<(), Failed> {
         let bytes = into.as_flattened_mut();
         let wanted = bytes.len();
-        match self.file.read_at(bytes, offset) {
+        match self.image.file.read_at(bytes, offset) {
             Ok(count) if count == wanted => Ok(()),
             _ => Err(Failed),
         }
@@ -83,13 +160,44 @@ impl RowFile for Image {
 
     /// A call that is interrupted or moves a part is gone on with.
     fn write_row(&mut self, offset: u64, _moments: &[u64], row: &[[u8; 512]]) -> Result<(), usize> {
-        let outcome = self.file.write_all_at(row.as_flattened(), offset);
+        self.is_written = true;
+        let outcome = self.image.file.write_all_at(row.as_flattened(), offset);
         count_call(&mut self.faults, all_or_none(outcome))
     }
 
+    /// A sync that was begun ends before it, and where that one failed this one has: the system may tell a failure once
+    /// alone.
     fn sync(&mut self, _moment: u64) -> Result<(), Failed> {
-        let outcome = self.file.sync_data();
-        count_call(&mut self.faults, outcome.map_err(|_| Failed))
+        let begun = self.end_begun();
+        let outcome = self.sync_now();
+        count_call(&mut self.faults, begun.and(outcome))
+    }
+
+    fn is_slow(&self) -> bool {
+        self.pace.is_slow()
+    }
+
+    /// Where nothing was written since the last sync there is nothing to begin, and its sync takes no time.
+    fn begin_sync(&mut self) -> bool {
+        if self.is_begun || !self.is_written {
+            return false;
+        }
+        if !sync_beside(&self.rt, &self.image.file, &self.told) {
+            return false;
+        }
+        self.is_written = false;
+        self.is_begun = true;
+        true
+    }
+
+    fn end_sync(&mut self, _moment: u64) -> Result<(), Failed> {
+        let outcome = self.end_begun();
+        count_call(&mut self.faults, outcome)
+    }
+
+    fn end_late_sync(&mut self, _moment: u64) -> Result<(), Failed> {
+        let outcome = self.end_begun();
+        count_call(&mut self.faults, outcome)
     }
 }
 

@@ -3,6 +3,7 @@
 
 use crate::bank::FileBank;
 use crate::door::{Survey, look_around};
+use crate::files::Host;
 use crate::run_over;
 use crate::sightings::see;
 use crate::streams::Output;
@@ -18,21 +19,21 @@ const ENOUGH_LOOKS: u32 = 20;
 
 /// What a look has told.
 #[derive(Drop)]
-pub struct Look {
+pub struct Look<B> {
     pub survey: Survey,
     pub text: Output<Vec<u8>>,
-    pub outcome: Outcome<FileBank>,
+    pub outcome: Outcome<B>,
     /// Whether the images showed the same after it as before.
     pub is_quiet: bool,
 }
 
 /// Looks until the images have not changed under a look, or too often.
-pub fn look_until_quiet<R: Threads + Wait + Sync>(
+pub fn look_until_quiet<R: Threads + Wait + Sync, H: Host + Send>(
     rt: &HostRuntime,
     threads: &R,
     command: &[String],
-    bank: FileBank,
-) -> Result<Look, AllocError> {
+    bank: FileBank<H>,
+) -> Result<Look<FileBank<H>>, AllocError> {
     let mut bank = bank;
     for number in 1..MOST_LOOKS {
         let look = look_once(rt, threads, command, bank)?;
@@ -46,12 +47,12 @@ pub fn look_until_quiet<R: Threads + Wait + Sync>(
 }
 
 /// Looks at the images once. What is to be printed is kept, as a later look may take its place.
-fn look_once<R: Threads + Wait + Sync>(
+fn look_once<R: Threads + Wait + Sync, H: Host + Send>(
     rt: &HostRuntime,
     threads: &R,
     command: &[String],
-    mut bank: FileBank,
-) -> Result<Look, AllocError> {
+    mut bank: FileBank<H>,
+) -> Result<Look<FileBank<H>>, AllocError> {
     let alloc = rt.alloc();
     bank.forget_reads();
     let survey = look_around(alloc, &mut bank, true)?;

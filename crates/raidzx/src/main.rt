@@ -18,6 +18,7 @@ mod looks;
 mod notes;
 mod opening;
 mod order;
+mod pace;
 mod places;
 mod room;
 mod script;
@@ -25,18 +26,21 @@ mod seen;
 mod sightings;
 mod standing;
 mod streams;
+mod told;
 mod undone;
 mod usage;
 
 use after::tell_files;
-use bank::{FileBank, bank_over, device_file};
+use bank::{DeviceFile, FileBank, bank_over, device_file};
 use bank_mem::MemBank;
 use bank_trait::{Bank, Sink};
 use entry::{look_first, tell_look};
+use files::Host;
 use hints::{hint_limit, hint_line};
 use looks::look_until_quiet;
 use notes::{note_busy, note_failed_calls, note_unopened};
 use opening::{Access, Unopened, access_for, open_image};
+use pace::Pace;
 use pool_live::OpenGate;
 use raidzx_top::{
     Outcome, ServedCommand, Status, TOO_MANY_FAILED, image_words, raidzx, read_command,
@@ -47,7 +51,7 @@ use std::alloc::{AllocError, AllocFailed, Global};
 use std::env;
 use std::io::{self, ErrorKind, Printer, Write};
 use std::process::ExitCode;
-use std::sync::Wait;
+use std::sync::{Arc, Wait};
 use std::thread::Threads;
 use streams::{Output, hold_standard_streams};
 use usage::hint_usage;
@@ -81,47 +85,61 @@ impl From<AllocError> for NoBank {
     }
 }
 
-/// Images that were opened, and how many sectors each has: 0 where it could not be opened.
+/// The bank of images that were opened, and how many sectors each has: 0 where it could not be opened.
 #[derive(Drop)]
-struct Opened {
-    bank: FileBank,
+struct Opened<B> {
+    bank: B,
     lengths: Vec<u64>,
+}
+
+/// Opens the image of a device, and tells why it could not be opened. Gives its file, and how many sectors it has.
+fn open_device<H: Host>(
+    rt: &HostRuntime,
+    host: H,
+    pace: &Arc<Pace>,
+    name: &str,
+    device: u32,
+    access: Access,
+) -> Result<(Option<DeviceFile<H>>, u64), NoBank> {
+    match open_image(rt, name, access) {
+        Ok(image) => {
+            let sectors = image.sectors();
+            let file = device_file(host, rt.alloc(), image, pace)?;
+            Ok((Some(file), sectors))
+        }
+        Err(why) => {
+            note_unopened(rt, name, &why);
+            match why {
+                Unopened::Failed(_) => Ok((None, 0)),
+                _ => Err(NoBank::Refused { device }),
+            }
+        }
+    }
 }
 
 /// Opens the files that the words from the second on name, so many of them, in this order, and tells why one could not
 /// be opened. At the first one that another program has, or that this one is refused, it stops: of two programs that
 /// want to change the same images one gets them all.
-fn open_files(
+fn open_files<H: Host + Copy>(
     rt: &HostRuntime,
+    host: H,
     words: &[String],
     count: u32,
     access: Access,
-) -> Result<Opened, NoBank>
+) -> Result<Opened<FileBank<H>>, NoBank>
     requires { count + 1 < length words.now }
     ensures devices { IfOk result (λ opened. (disk_of device_contents opened.bank).devices ≡ count) }
 {
     let alloc = rt.alloc();
+    let pace = Arc::new(alloc, Pace::new())?;
     let mut files = Vec::new(alloc);
     let mut faults = Vec::new(alloc);
     let mut lengths = Vec::new(alloc);
     for device in 0..count {
         let name = words[device as usize + 1].as_str();
-        match open_image(rt, name, access) {
-            Ok(image) => {
-                lengths.push(image.sectors())?;
-                files.push(Some(device_file(alloc, image)?))?;
-            }
-            Err(why) => {
-                note_unopened(rt, name, &why);
-                match why {
-                    Unopened::Failed(_) => {
-                        lengths.push(0)?;
-                        files.push(None)?;
-                    }
-                    _ => return Err(NoBank::Refused { device }),
-                }
-            }
-        }
+        let (file, sectors) = open_device(rt, host, &pace, name, device, access)?;
+        files.push(file)?;
+        lengths.push(sectors)?;
         faults.push(0)?;
     }
     Ok(Opened {
@@ -177,13 +195,13 @@ fn output(rt: &HostRuntime) -> Output<Printer<'_, HostRuntime>> {
 }
 
 /// Carries out a command that changes files, if it is let in, and tells what a user has to know.
-fn serve_files<R: Threads + Wait + Sync>(
+fn serve_files<R: Threads + Wait + Sync, H: Host + Send>(
     rt: &HostRuntime,
     threads: &R,
     names: &[String],
     command: &[String],
     served: ServedCommand,
-    opened: Opened,
+    opened: Opened<FileBank<H>>,
 ) -> ExitCode {
     let alloc = rt.alloc();
     let lengths = opened.lengths;
@@ -202,12 +220,12 @@ fn serve_files<R: Threads + Wait + Sync>(
 }
 
 /// Looks at files, and tells what they show.
-fn serve_look<R: Threads + Wait + Sync>(
+fn serve_look<R: Threads + Wait + Sync, H: Host + Send>(
     rt: &HostRuntime,
     threads: &R,
     names: &[String],
     command: &[String],
-    opened: Opened,
+    opened: Opened<FileBank<H>>,
 ) -> ExitCode {
     let Ok(look) = look_until_quiet(rt, threads, command, opened.bank) else {
         return end(rt, Status::NoMemory);
@@ -284,7 +302,7 @@ fn main(rt: HostRuntime) -> ExitCode {
         None => {
             let names = &words[1..images.count + 1];
             let access = access_for(served);
-            match (open_files(&rt, &words, count, access), access) {
+            match (open_files(&rt, &rt, &words, count, access), access) {
                 (Ok(opened), Access::Look) => serve_look(&rt, &rt, names, command, opened),
                 (Ok(opened), Access::Change) => {
                     serve_files(&rt, &rt, names, command, served, opened)

@@ -1,6 +1,7 @@
 // What a user is told of each image, on standard error: one line each. A line that can't be written changes nothing.
 
 use crate::bank::FileBank;
+use crate::files::Host;
 use crate::opening::Unopened;
 use crate::seen::Seen;
 use bank_trait::Bank;
@@ -58,7 +59,12 @@ pub fn note_short<R: Eprint>(rt: &R, names: &[String], lengths: &[u64], disks: u
 }
 
 /// The images whose calls failed. One that could not be opened is told as such.
-pub fn note_failed_calls<R: Eprint>(rt: &R, names: &[String], lengths: &[u64], bank: &FileBank) {
+pub fn note_failed_calls<R: Eprint, H: Host>(
+    rt: &R,
+    names: &[String],
+    lengths: &[u64],
+    bank: &FileBank<H>,
+) {
     for device in 0..bank.devices() {
         let Some(name) = names.get(device as usize) else {
             return;
