@@ -1,5 +1,5 @@
 -- Blocks of a pool that has one device more.
-use Rattle.std.specs.Prelude.{◌≡◌, ℕ, ◌+◌, ◌^◌, ◌<◌, ◌≤◌, length}
+use Rattle.std.specs.Prelude.{ℕ, ◌+◌, ◌^◌, ◌<◌, ◌≤◌, length}
 use Rattle.width_map.specs.Births.{births_after, last_width}
 use Rattle.block_record.specs.declared.entry.IndexEntry.{IndexEntry}
 use Rattle.core_blocks.specs.Blocks.{Blocks, IsListed}

@@ -87,12 +87,12 @@ module _ (setting : Setting) (first next : Kept) where
         (slot_low kept.uber.group)
 
     asked : (kept : Kept) → (kept ≡ first) ⊎ (kept ≡ next) → (d x : ℕ) (bytes : List ℕ) → here d x
-        → Asks kept d x bytes
-        → Contains setting.excepted (d, x)
-    asked kept (inl is) d x bytes h asks =
-        beside.not_first d x bytes h (subst (λ (k : Kept). Asks k d x bytes) is asks)
-    asked kept (inr is) d x bytes h asks =
-        beside.not_next d x bytes h (subst (λ (k : Kept). Asks k d x bytes) is asks)
+        → (asks : Asks kept d x bytes)
+        → Contains kept.excepted (asks.cell.sector, (d, x))
+    asked kept (inl is) d x bytes h = subst (λ (k : Kept). (asks : Asks k d x bytes)
+        → Contains k.excepted (asks.cell.sector, (d, x))) (sym is) (beside.not_first d x bytes h)
+    asked kept (inr is) d x bytes h = subst (λ (k : Kept). (asks : Asks k d x bytes)
+        → Contains k.excepted (asks.cell.sector, (d, x))) (sym is) (beside.not_next d x bytes h)
 
     either : (stage : Stage) (kept : Kept) → Contains (first ∷ shown_at next stage) kept
         → (kept ≡ first) ⊎ (kept ≡ next)

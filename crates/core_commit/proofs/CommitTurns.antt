@@ -132,7 +132,7 @@ module _ (setting : Setting) (first next : Kept) where
         row = is.row;
         kept = next;
         listed = contains_tail first (next ∷ []) next (contains_head next []);
-        same = record { entries = refl; map = λ id. refl; alike = refl };
+        same = record { entries = refl; map = λ id. refl; alike = refl; excepted = refl };
         alike = is.alike;
         listing = record {
           index = is.sound.index;

@@ -1,5 +1,5 @@
 -- The uberblock of the next group is right.
-use Rattle.std.proofs.Common.{◌≡◌, ℕ, ◌+◌, ◌^◌, ◌<◌, ◌≤◌, List, sym, subst, arith}
+use Rattle.std.proofs.Common.{ℕ, ◌+◌, ◌^◌, ◌<◌, ◌≤◌, List, sym, subst, arith}
 use Rattle.reflow_mark.specs.declared.reflow.Reflow.{Reflow}
 use Rattle.reflow_mark.specs.Reflow.{IsRightReflow}
 use Rattle.block_record.specs.Bytes.{IsDigest}

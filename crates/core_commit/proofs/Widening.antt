@@ -88,6 +88,7 @@ asks_widened next device device_sector bytes none = (
 pub beside_widened : (setting : Setting) (first next : Kept) (here : ℕ → ℕ → Type 0) → next.uber.reflow.state ≡ None
     → IsBeside setting first next here
     → IsBeside (record setting { reach = setting.reach + 1 }) first (widened_kept next) here
+unfolding asks_resting
 beside_widened setting first next here none beside = record {
   region = beside.region;
   not_first = beside.not_first;
@@ -208,6 +209,7 @@ module _ (setting : Setting) (first next : Kept) (run : CommitRun) (point : Poin
       (right_widths run.uber is.right)
 
   known : IsCertain wider point.disk (first ∷ widened_kept next ∷ []) (widened_uber run.uber)
+  unfolding asks_resting
   known = record {
     kept = widened_kept next;
     listed = contains_tail first (widened_kept next ∷ []) (widened_kept next) (contains_head (widened_kept next) []);

@@ -127,11 +127,11 @@ pub record IsBeside (setting : Setting) (first next : Kept) (here : ℕ → ℕ 
   pub region : (device device_sector : ℕ) → here device device_sector
       → ((32 ≤ device_sector) × (device_sector < 64)) ⊎ (192 ≤ device_sector)
   pub not_first : (device device_sector : ℕ) (bytes : List ℕ) → here device device_sector
-      → Asks first device device_sector bytes
-      → Contains setting.excepted (device, device_sector)
+      → (asks : Asks first device device_sector bytes)
+      → Contains first.excepted (asks.cell.sector, (device, device_sector))
   pub not_next : (device device_sector : ℕ) (bytes : List ℕ) → here device device_sector
-      → Asks next device device_sector bytes
-      → Contains setting.excepted (device, device_sector)
+      → (asks : Asks next device device_sector bytes)
+      → Contains next.excepted (asks.cell.sector, (device, device_sector))
 
 -- what images may show beside the first group: nothing in the first half, the group itself in the second
 abbrev pub shown_at : Kept → Stage → List Kept

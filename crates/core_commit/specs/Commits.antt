@@ -26,7 +26,7 @@ row_of begun = begun.later ++ begun.joined
 
 -- the group as it is written
 abbrev pub group_made : Begun → Uber → List IndexEntry → Kept
-group_made begun uber entries = record { uber = uber; entries = entries; map = begun.map }
+group_made begun uber entries = record { uber = uber; entries = entries; map = begun.map; excepted = begun.kept.excepted }
 
 -- The group goes to the other index area and another slot than the first one's, and its blocks are read as
 -- it asks for them on each device in use.
@@ -43,4 +43,4 @@ pub record MayCommit (begun : Begun) (uber : Uber) (entries : List IndexEntry) (
     pub near : (uber.group ≡ begun.first.uber.group + 1) ⊎ (uber.group ≡ begun.first.uber.group + 2)
     pub told : TellsHead (group_made begun uber entries) point
     pub cells : (device : ℕ) → device < uber.reflow.to → has_device point.out device ≡ false
-        → CellsOn begun.setting.excepted point.disk.reads (group_made begun uber entries) device
+        → CellsOn begun.kept.excepted point.disk.reads (group_made begun uber entries) device

@@ -1,5 +1,5 @@
 -- What a job under way keeps of a cell, from its begin over each step to its end.
-use Rattle.std.proofs.Common.{◌≡◌, ◌≢◌, ◌⊎◌, inl, inr, ⊎_elim, ℕ, ◌+◌, ◌/◌, ◌<◌, ◌≤◌, Bool, true, false, List, Option}
+use Rattle.std.proofs.Common.{Contains, ◌≡◌, ◌≢◌, ◌⊎◌, inl, inr, ⊎_elim, ℕ, ◌+◌, ◌/◌, ◌<◌, ◌≤◌, Bool, true, false, List, Option}
 use Rattle.std.proofs.Common.{Some, None, Result, Ok, Err, refl, sym, ◌∙◌, ap, subst, arith}
 use Rattle.std.specs.Prelude.{◌==◌, ◌&&◌, ◌||◌, IsSome}
 use Rattle.std.proofs.lemmas.Bool.Decides.{nat_tests}
@@ -196,7 +196,8 @@ read_holds reflow done run stepped before after excepted cell goes left below tr
         (reads_cell reflow done run.job before.disk.reads before.out excepted cell spot.device spot.device_sector goes.front goes.may_run
         (subst (λ (s : ℕ). CopiesSector reflow run.job s) (sym here) (present_in reflow done run goes left)) below
         (subst (λ (s : ℕ). IsSource reflow run.job s spot.device spot.device_sector) (sym here) (source_at reflow done run goes))
-        holds.come.right reads.read.called.in_use trusted)
+        holds.come.right reads.read.called.in_use (λ listed. trusted
+        (subst (λ (s : ℕ). Contains excepted (s, (spot.device, spot.device_sector))) here listed)))
 
 -- A device whose call failed is out.
 failed_out : (device : ℕ) (why : Failed) (before after : Point) → Called device (Err why) before after
@@ -219,7 +220,8 @@ write_comes : (reflow : Reflow) (done : ℕ) (run : JobRun) (bytes : List ℕ) (
 write_comes reflow done run bytes (Ok value) before after excepted cell goes left close same told wrote called within come =
     stays_out reflow done run.job (present_sector run + 1) after.disk before.out after.out excepted cell within
     (job_goes_on reflow done run.job (present_sector run) bytes value before.disk after.disk before.out excepted cell _ _
-    goes.widening goes.front goes.may_run (present_in reflow done run goes left) close (target_at reflow done run goes) same told wrote come)
+    goes.widening goes.front goes.may_run (present_in reflow done run goes left) close (target_at reflow done run goes)
+    (λ here none. same here) told wrote come)
 write_comes reflow done run bytes (Err why) before after excepted cell goes left close same told wrote called within come =
     job_fails reflow done run.job (present_sector run) bytes (Err why) before.disk after.disk before.out after.out excepted cell _ _
     goes.widening goes.front goes.may_run (present_in reflow done run goes left) close (target_at reflow done run goes) wrote within

@@ -27,7 +27,7 @@ pub reads_cell : (reflow : Reflow) (done : ℕ) (job : Job) (known : Known) (out
     (device device_sector : ℕ) → IsFrontOf reflow done → MayRun reflow done job → CopiesSector reflow job cell.sector
     → cell.sector < cell.row_end → IsSource reflow job cell.sector device device_sector
     → RightAt known reflow done out excepted cell → has_device out device ≡ false
-    → (Contains excepted (device, device_sector) → ⊥)
+    → (Contains excepted (cell.sector, (device, device_sector)) → ⊥)
     → known device device_sector ≡ Some cell.bytes
 reads_cell reflow done job known out excepted cell device device_sector front may inside below at right =
     right.at device device_sector
@@ -37,15 +37,15 @@ reads_cell reflow done job known out excepted cell device device_sector front ma
 copied_at : (reflow : Reflow) (job : Job) (disk : Disk) (out : ℕ) (excepted : Excepted) (cell : Cell) (device device_sector : ℕ)
     → IsCopied excepted disk out (target_of reflow job cell.sector) cell
     → IsTarget reflow job cell.sector device device_sector
-    → has_device out device ≡ false → (Contains excepted (device, device_sector) → ⊥)
+    → has_device out device ≡ false → (Contains excepted (cell.sector, (device, device_sector)) → ⊥)
     → disk.reads device device_sector ≡ Some cell.bytes
 copied_at reflow job disk out excepted cell device device_sector copied at in_use not_excepted =
     let spot = target_of reflow job cell.sector in
     subst (λ (d : ℕ). disk.reads d device_sector ≡ Some cell.bytes) (sym at.device_is)
     (subst (λ (x : ℕ). disk.reads spot.1.device x ≡ Some cell.bytes) (sym at.sector_is)
     (copied.there (subst (λ (d : ℕ). has_device out d ≡ false) at.device_is in_use)
-    (λ listed. not_excepted (subst (λ (d : ℕ). Contains excepted (d, device_sector)) (sym at.device_is)
-    (subst (λ (x : ℕ). Contains excepted (spot.1.device, x)) (sym at.sector_is) listed)))))
+    (λ listed. not_excepted (subst (λ (d : ℕ). Contains excepted (cell.sector, (d, device_sector))) (sym at.device_is)
+    (subst (λ (x : ℕ). Contains excepted (cell.sector, (spot.1.device, x))) (sym at.sector_is) listed)))))
 
 -- Law: Of a cell outside the sectors that a job has copied no more is asked than that it is right at the front.
 pub come_outside : (reflow : Reflow) (done : ℕ) (job : Job) (next : ℕ) (disk : Disk) (out : ℕ) (excepted : Excepted) (cell : Cell)
@@ -151,7 +151,8 @@ come_past reflow done job sector disk out excepted cell here come = record {
 pub job_goes_on : (reflow : Reflow) (done : ℕ) (job : Job) (sector : ℕ) (bytes : List ℕ) (value : Unit {0}) (old new : Disk)
     (out : ℕ) (excepted : Excepted) (cell : Cell) (device device_sector : ℕ)
     → IsWidening reflow → IsFrontOf reflow done → MayRun reflow done job → CopiesSector reflow job sector → IsClose reflow cell
-    → IsTarget reflow job sector device device_sector → (cell.sector ≡ sector → bytes ≡ cell.bytes)
+    → IsTarget reflow job sector device device_sector
+    → (cell.sector ≡ sector → (Contains excepted (cell.sector, (device, device_sector)) → ⊥) → bytes ≡ cell.bytes)
     → IsSome (old.reads device device_sector) → Wrote old new device device_sector bytes (Ok value)
     → HasComeTo reflow done job sector old out excepted cell
     → HasComeTo reflow done job (sector + 1) new out excepted cell
@@ -160,7 +161,9 @@ job_goes_on reflow done job sector bytes value old new out excepted cell device 
     (λ is. record {
       there = λ in_use not_excepted. subst (λ (d : ℕ). new.reads d ((target_of reflow job sector).0 + (target_of reflow job sector).1.row) ≡ Some cell.bytes)
           at.device_is (subst (λ (x : ℕ). new.reads device x ≡ Some cell.bytes) at.sector_is
-          (wrote.told told ∙ ap (λ (b : List ℕ). Some b) (same is)));
+          (wrote.told told ∙ ap (λ (b : List ℕ). Some b) (same is (λ listed. not_excepted
+          (subst (λ (d : ℕ). Contains excepted (cell.sector, (d, (target_of reflow job sector).0 + (target_of reflow job sector).1.row))) at.device_is
+          (subst (λ (x : ℕ). Contains excepted (cell.sector, (device, x))) at.sector_is listed))))));
     })
     (write_stays reflow done job sector bytes (Ok value) old new out out excepted cell device device_sector widening front may inside close
     at wrote (λ d has. has) come)

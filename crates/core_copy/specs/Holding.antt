@@ -18,10 +18,10 @@ pub record GoesOnIn (reflow : Reflow) (done : ℕ) (run : JobRun) : Type 0 where
   pub moves : MovesMark run.reflow done reflow
   pub made : run.made ≤ call_count run.reflow run.job
 
--- The place at which the job reads its present sector is none that may hold wrong bytes.
+-- The present sector is none that may be wrong at the place at which the job reads it.
 abbrev pub IsTrusted : JobRun → Excepted → Type 0
 IsTrusted run excepted =
-    Contains excepted ((source_spot run).device, (source_spot run).device_sector) → ⊥
+    Contains excepted (present_sector run, ((source_spot run).device, (source_spot run).device_sector)) → ⊥
 
 -- The job has come to its present sector with the cell, and what it has read of the cell's sector is the cell.
 pub record HoldsJob (reflow : Reflow) (done : ℕ) (run : JobRun) (point : Point) (excepted : Excepted)

@@ -1,5 +1,5 @@
 -- A run may begin on a bank that has further devices, or more sectors, than the one that kept the groups.
-use Rattle.std.proofs.Common.{get_or, ◌≡◌, ◌≢◌, inl, inr, ⊎_elim, ℕ, ◌<◌, ◌≤◌, List, ◌∷◌, refl, sym, ap, subst, arith}
+use Rattle.std.proofs.Common.{get_or, ◌≡◌, ◌≢◌, inl, inr, ⊎_elim, ℕ, ◌<◌, ◌≤◌, List, [], ◌∷◌, refl, sym, ap, subst, arith}
 use Rattle.std.specs.Prelude.{Contains, min}
 use Rattle.std.proofs.lemmas.Bool.{cases_lt}
 use Rattle.std.proofs.lemmas.Bool.Decides.{nat_tests}
@@ -11,7 +11,7 @@ use Rattle.uberblock_ring.specs.Uberblock.{Uber, encoded, slot_of}
 use Rattle.uberblock_ring.specs.Valid.{AreAlike}
 use Rattle.core_state.specs.Shown.{Gives, IsCandidate, Shape, Shows}
 use Rattle.core_state.specs.Keeps.{HasWidthIn, IsKept, IsNotOutvoted, Keeps, Kept, MayVoteFor, Setting}
-use Rattle.core_state.specs.Collision.{HasNoOtherPage, MightStand}
+use Rattle.core_state.specs.Collision.{MightStand}
 use Rattle.core_state.proofs.Places.{asks_device, right_widths}
 use Rattle.core_open.specs.Holds.{HoldsNoOther, shape_of}
 use Rattle.core_open.specs.Opening.{MayBegin}
@@ -98,7 +98,7 @@ module _ (setting : Setting) (shape : Shape) (devices : setting.shape.devices �
           (λ (low : other < setting.shape.devices). is.whole.right cell other cell_is low used)
           (λ (high : setting.shape.devices ≤ other). record {
             at = λ device_sector place not_excepted. absurd (
-                let below = asks_device (record { uber = uber; entries = is.kept.entries; map = is.kept.map }) other
+                let below = asks_device (record { uber = uber; entries = is.kept.entries; map = is.kept.map; excepted = [] }) other
                 device_sector cell.bytes (right_widths uber shows.valid.right)
                 (record { cell = cell; cell_is = cell_is; place = place; bytes_are = refl }) in
                 let narrow = none_beyond uber is.kept is.listed is.alike in omega (arith, below, narrow, high));

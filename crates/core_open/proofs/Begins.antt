@@ -145,15 +145,15 @@ module _ (setting : Setting) (first : Kept) (later : List Kept) (uber : Uber) (e
     knows = opened.knows;
     alike = opened.alike;
     kept = kept;
-    excepted = may.excepted;
+    excepted = opened.renews.excepted ∙ may.excepted opened.chosen opened.listed;
     shape = may.may.shape ∙ (λ i. record { devices = sym after.devices i; sectors = sym after.sectors i });
     tells = tells_later after may.may.tells;
   }
 
   -- What the group asks for on a device in use is certain, and so it is read.
   cells : (device : ℕ) → device < setting.shape.devices → has_device uber.out device ≡ false
-      → CellsOn setting.excepted (certain new) next device
-  cells device inside used = subst (λ (k : Kept). CellsOn setting.excepted (certain new) k device)
+      → CellsOn next.excepted (certain new) next device
+  cells device inside used = subst (λ (k : Kept). CellsOn k.excepted (certain new) k device)
       (⊎_elim (λ same. same) (λ none. absurd (contains_none opened.known.kept none))
       (contains_cases next [] opened.known.kept opened.known.listed))
       (opened.known.cells device inside used)
@@ -171,7 +171,8 @@ module _ (setting : Setting) (first : Kept) (later : List Kept) (uber : Uber) (e
       let same = after.devices in
       lawful.stays_read device device_sector bytes
       ((cells device (omega (arith, below, devices, same)) (was_used uber.out out device lists used)).at device_sector bytes asks
-      (λ excepted. contains_none (device, device_sector) (subst (λ (o : Excepted). Contains o (device, device_sector)) may.excepted excepted)))
+      (λ excepted. contains_none (asks.cell.sector, (device, device_sector))
+      (subst (λ (o : Excepted). Contains o (asks.cell.sector, (device, device_sector))) group.excepted excepted)))
 
   holds : HoldsMap next.map state
   holds = record {

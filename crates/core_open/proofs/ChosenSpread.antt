@@ -1,6 +1,6 @@
 -- The chosen group may be spread to the devices that lack it.
 use Rattle.std.proofs.Common.{◌≡◌, ◌≢◌, ◌⊎◌, inl, inr, ⊎_elim, ℕ, ◌+◌, ◌*◌, ◌<◌, ◌≤◌, List, [], ◌∷◌, Bool, true, false}
-use Rattle.std.proofs.Common.{Option, Some, None, refl, sym, ◌∙◌, ap, subst, arith}
+use Rattle.std.proofs.Common.{Some, refl, sym, ◌∙◌, ap, subst, arith}
 use Rattle.std.specs.Prelude.{IsSome, take, drop, unwrap_or}
 use Rattle.std.proofs.lemmas.Bool.{cases_eq}
 use Rattle.bank_trait.specs.Disk.{Disk, Lawful, Unchanged}
@@ -16,7 +16,6 @@ use Rattle.core_state.specs.Keeps.{Keeps, Kept, Setting, Renews}
 use Rattle.core_state.specs.Collision.{HasNoOtherPage, MightStand}
 use Rattle.core_state.specs.Certain.{SlotOn, Knows}
 use Rattle.core_state.specs.Committing.{Point}
-use Rattle.core_state.proofs.Calls.{true_false}
 use Rattle.core_state.proofs.Frames.{Nowhere, none_lost, unchanged_frames}
 use Rattle.core_state.proofs.Keeping.{knows_keep}
 use Rattle.core_state.proofs.Knowing.{present, knows_frame, certain_frame}
@@ -84,7 +83,7 @@ module _ (setting : Setting) (first : Kept) (later : List Kept) (disk : Disk)
       tells on device_sector (read.inside on in_use) (let room = read.room in omega (arith, low, room))
 
   slot_on : (on : ℕ) → IsInUse uber point on → has_device lack_uber on ≡ false
-      → SlotOn disk.reads (record { uber = uber; entries = entries; map = kept.map }) on
+      → SlotOn disk.reads (record { uber = uber; entries = entries; map = kept.map; excepted = kept.excepted }) on
   slot_on on in_use has =
       let shown = read.shows on in_use has in
       let bytes = told_bytes (disk.reads on (slot_of uber.group))

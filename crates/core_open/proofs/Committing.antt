@@ -52,7 +52,7 @@ module _ (setting : Setting) (last : Kept) (map : Map) (before : State) (is : Is
   entries = before.pool.blocks.table.entries
 
   abbrev next : Kept
-  next = record { uber = uber; entries = entries; map = map }
+  next = record { uber = uber; entries = entries; map = map; excepted = [] }
 
   abbrev begun : List Kept → Begun
   begun earlier = record {
@@ -147,7 +147,7 @@ module _ (setting : Setting) (last : Kept) (map : Map) (before : State) (is : Is
       (omega (arith, sector, below, end), (holds.right of.entry of.content listed of.held).each cell of.cell_is)
 
   cells : (device : ℕ) → device < chosen.to → has_device before.pool.out device ≡ false
-      → CellsOn setting.excepted before.disk.reads next device
+      → CellsOn [] before.disk.reads next device
   cells device within used = record {
     at = λ device_sector bytes asks excepted.
         let read = read_cell asks.cell (same_cells before.pool.uber.parity before.pool.uber.reflow chosen before.pool.uber.births
@@ -162,7 +162,7 @@ module _ (setting : Setting) (last : Kept) (map : Map) (before : State) (is : Is
   may_commit earlier = record {
     knows = group.knows;
     row = row;
-    same = record { entries = refl; map = λ id. refl; alike = refl };
+    same = record { entries = refl; map = λ id. refl; alike = refl; excepted = refl };
     sound = sound;
     front = last ∷ [];
     last = refl;

@@ -1,10 +1,9 @@
 -- What an opening keeps, from the calls that it made.
 use Rattle.std.proofs.Common.{◌≡◌, ⊎_elim, ℕ, zero, suc, ◌+◌, ◌^◌, ◌<◌, ◌≤◌, List, [], ◌∷◌, ◌++◌, Bool, true, false}
-use Rattle.std.proofs.Common.{Some, Result, Ok, refl, sym, ◌∙◌, ap, subst, arith, append_assoc}
-use Rattle.std.specs.Prelude.{◌&&◌, unwrap_or}
+use Rattle.std.proofs.Common.{Result, Ok, refl, sym, ◌∙◌, ap, subst, arith, append_assoc}
+use Rattle.std.specs.Prelude.{◌&&◌}
 use Rattle.std.proofs.lemmas.Bool.{cases_lt}
 use Rattle.bank_trait.specs.Disk.{Image, Disk, Lawful, Unchanged}
-use Rattle.bank_trait.specs.Regions.{Tells}
 use Rattle.block_record.specs.declared.entry.IndexEntry.{IndexEntry}
 use Rattle.uberblock_ring.specs.Devices.{has_device, count_below, IsWithin}
 use Rattle.uberblock_ring.specs.Uberblock.{Uber}

@@ -1,11 +1,11 @@
 -- A run goes on in the bank that another one left, without a power cut between.
-use Rattle.std.proofs.Common.{◌≡◌, ℕ, ◌++◌, List, [], ◌∷◌, Some, refl, sym, ◌∙◌, subst, arith}
+use Rattle.std.proofs.Common.{◌≡◌, ℕ, ◌++◌, List, ◌∷◌, Some, refl, sym, ◌∙◌, subst, arith}
 use Rattle.std.specs.Prelude.{Contains}
 use Rattle.std.proofs.lemmas.List.Elements.{Contains-append_left, Contains-append_right}
 use Rattle.bank_trait.specs.Disk.{Disk}
 use Rattle.bank_trait.specs.Regions.{Tells}
 use Rattle.reconstruct.specs.Lost.{AreBytes}
-use Rattle.core_state.specs.Keeps.{HaveParity, Kept, Setting}
+use Rattle.core_state.specs.Keeps.{HaveParity, Kept, NoneExcepted, Setting}
 use Rattle.core_state.specs.Moment.{KeepsRow}
 use Rattle.core_open.specs.Holds.{HoldsNoOther, shape_of}
 use Rattle.core_open.specs.Opening.{MayBegin}
@@ -14,7 +14,7 @@ use Rattle.core_open.specs.Opening.{MayBegin}
 -- the groups have one parity and hold bytes.
 module _ (setting : Setting) (groups : List Kept) (parity : ℕ) (disk : Disk)
     (kept : KeepsRow setting groups disk disk.clock)
-    (shape : setting.shape ≡ shape_of disk) (excepted : setting.excepted ≡ []) (tells : Tells disk)
+    (shape : setting.shape ≡ shape_of disk) (excepted : NoneExcepted groups) (tells : Tells disk)
     (no_other : HoldsNoOther setting groups disk)
     (parities : HaveParity parity groups)
     (bytes : (group : Kept) (id : ℕ) (content : List ℕ) → Contains groups group
@@ -41,6 +41,6 @@ module _ (setting : Setting) (groups : List Kept) (parity : ℕ) (disk : Disk)
       parity = λ group listed. parities group (among group listed)
           ∙ sym (parities kept.first (among kept.first (0, omega arith, refl)));
     };
-    excepted = excepted;
+    excepted = λ group listed. excepted group (among group listed);
     bytes = λ group id content listed is. bytes group id content (among group listed) is;
   }

@@ -1,10 +1,9 @@
 -- A pool whose expansion ends may grow: what its blocks ask for is met once the group after the last one is answered.
-use Rattle.std.proofs.Common.{◌≡◌, ℕ, ◌+◌, ◌*◌, ◌^◌, ◌<◌, ◌≤◌, List, length, sym, subst, arith}
+use Rattle.std.proofs.Common.{◌≡◌, ◌*◌, ◌<◌, ◌≤◌, List, length, sym, subst, arith}
 use Rattle.std.proofs.Math.Nat.{mul-le-mul_left}
 use Rattle.width_map.specs.declared.birth.Birth.{Birth}
 use Rattle.width_map.specs.Births.{last_width}
 use Rattle.width_map.proofs.Growing.{has_room}
-use Rattle.block_record.specs.declared.entry.IndexEntry.{IndexEntry}
 use Rattle.uberblock_ring.specs.Valid.{IsRightUber}
 use Rattle.core_blocks.specs.Growing.{MayGrow}
 use Rattle.shadow_write.specs.Band.{IsWidening}

@@ -6,6 +6,7 @@ use Rattle.std.proofs.lemmas.Bool.{cases_eq}
 use Rattle.std.proofs.lemmas.List.{append-nil, get_or_default}
 use Rattle.std.proofs.lemmas.List.Elements.{All-append}
 use Rattle.sha2.specs.Sha256.{sha256}
+use Rattle.bank_trait.specs.Disk.{Known}
 use Rattle.width_map.proofs.Growing.{none_above_more}
 use Rattle.block_record.specs.declared.entry.IndexEntry.{IndexEntry}
 use Rattle.block_record.specs.Page.{index_page, IsIndex}
@@ -14,14 +15,14 @@ use Rattle.uberblock_ring.specs.Uberblock.{Uber}
 use Rattle.uberblock_ring.specs.Valid.{IsRightUber}
 use Rattle.core_state.specs.Index.{IsFitting, IsIndexOf}
 use Rattle.core_state.specs.Keeps.{AreNearWidths, Kept, Setting, IsNextOf, Renews, SameGroup, HasWidthIn}
-use Rattle.core_state.specs.Certain.{Asks, IsSound, IsCertain, IsSuccession, Knows}
+use Rattle.core_state.specs.Certain.{CellsOn, IsSound, IsCertain, IsSuccession, Knows, certain}
 use Rattle.core_state.specs.Committing.{Point}
 use Rattle.core_state.specs.Moment.{IsRowOf}
 use Rattle.core_state.proofs.Calls.{true_false}
 use Rattle.core_state.proofs.Fresh.{none_in}
 use Rattle.core_state.proofs.Keeping.{fitting_alike}
 use Rattle.core_state.proofs.Listed.{contains_head, contains_tail, contains_cases, contains_none}
-use Rattle.core_state.proofs.Moving.{asks_same, knows_move, knows_widen}
+use Rattle.core_state.proofs.Moving.{cells_same, knows_move, knows_widen}
 use Rattle.core_state.proofs.Reader.{same_group}
 use Rattle.core_state.proofs.Widths.{listed_width, only_width, width_like, widths_behind}
 use Rattle.core_commit.specs.Spread.{IsInUse, IsSpreadTo, StaysKnown, MaySpread}
@@ -117,22 +118,30 @@ find_number (first ∷ groups) number = ⊎_elim
     (find_number groups number))
     (cases_eq first.uber.group number)
 
--- A group of a later number asks for the same where it renews.
-asks_renewed : (kept next : Kept) (device device_sector : ℕ) (bytes : List ℕ) → Renews kept next
-    → Asks next device device_sector bytes
-    → Asks kept device device_sector bytes
-asks_renewed kept next device device_sector bytes renews asks =
-    let moved = asks_same next
-    (record { uber = record kept.uber { group = kept.uber.group + 2 }; entries = kept.entries; map = kept.map })
-    device device_sector bytes (record { entries = renews.entries; map = renews.map; alike = renews.alike }) asks in
-    record { cell = moved.cell; cell_is = moved.cell_is; place = moved.place; bytes_are = moved.bytes_are }
+-- What is known of a group is known of one that renews it.
+cells_renewed : (kept next : Kept) (known : Known) (device : ℕ) → Renews kept next
+    → CellsOn kept.excepted known kept device → CellsOn next.excepted known next device
+cells_renewed kept next known device renews cells = cells_same next renumbered known device
+    (record { entries = renews.entries; map = renews.map; alike = renews.alike; excepted = renews.excepted })
+    (λ device_sector bytes asks. record {
+      at = λ x wanted asked none. cells.at x wanted
+          (record { cell = asked.cell; cell_is = asked.cell_is; place = asked.place; bytes_are = asked.bytes_are }) none;
+    })
+  where
+    renumbered : Kept
+    renumbered = record {
+      uber = record kept.uber { group = kept.uber.group + 2 };
+      entries = kept.entries;
+      map = kept.map;
+      excepted = kept.excepted;
+    }
 
 -- What an opening knows once the chosen group is brought to each device in use.
 pub record IsSpread (setting : Setting) (first : Kept) (later : List Kept) (kept : Kept) (uber : Uber)
     (entries : List IndexEntry) (point : Point) : Type 0 where
   pub listed : Contains (first ∷ later) kept
   pub near : (kept ≡ first) ⊎ IsNextOf first kept
-  pub same : SameGroup kept (record { uber = uber; entries = entries; map = kept.map })
+  pub same : SameGroup kept (record { uber = uber; entries = entries; map = kept.map; excepted = kept.excepted })
   pub sound : IsSound setting kept
   pub right : IsRightUber uber
   pub parity_is : kept.uber.parity ≡ first.uber.parity
@@ -153,7 +162,7 @@ module _ (setting : Setting) (first : Kept) (later : List Kept) (kept : Kept) (u
   renewed = record uber { group = uber.group + 2; out = point.out }
 
   abbrev pub fresh : Kept
-  fresh = record { uber = renewed; entries = entries; map = kept.map }
+  fresh = record { uber = renewed; entries = entries; map = kept.map; excepted = kept.excepted }
 
   knows : Knows setting first later point.disk
   knows = is.stays.knows
@@ -187,6 +196,7 @@ module _ (setting : Setting) (first : Kept) (later : List Kept) (kept : Kept) (u
     entries = sym is.same.entries;
     map = λ id. refl;
     alike = sym (ap (λ (u : Uber). record u { group = u.group + 2 }) is.same.alike);
+    excepted = refl;
   }
 
   pub parts : (front : List Kept) × (back : List Kept) × (first ∷ later ≡ front ++ kept ∷ back)
@@ -407,6 +417,7 @@ module _ (setting : Setting) (first : Kept) (later : List Kept) (kept : Kept) (u
       entries = joins.renews.entries ∙ is.same.entries;
       map = joins.renews.map;
       alike = joins.renews.alike ∙ ap (λ (u : Uber). record u { group = u.group + 2 }) is.same.alike;
+      excepted = joins.renews.excepted;
     }
 
     next_indexes : IsIndexOf next.entries next.map
@@ -442,11 +453,9 @@ module _ (setting : Setting) (first : Kept) (later : List Kept) (kept : Kept) (u
                 ∙ ap (λ (u : Uber). u.count) is.same.alike;
           };
           indexes = next_indexes;
-          cells = λ device inside used. record {
-            at = λ x bytes asks not_odd. (known.cells device inside (out_before device used)).at x bytes
-                (subst (λ (k : Kept). Asks k device x bytes) (sym same)
-                (asks_renewed kept next device x bytes joins.renews asks)) not_odd;
-          };
+          cells = λ device inside used. cells_renewed kept next (certain point.disk) device joins.renews
+              (subst (λ (k : Kept). CellsOn k.excepted (certain point.disk) k device) same
+              (known.cells device inside (out_before device used)));
           out = is.within;
         }
 
@@ -457,7 +466,7 @@ module _ (setting : Setting) (first : Kept) (later : List Kept) (kept : Kept) (u
     may_renew all each = record {
       knows = knows_rest;
       listed = next_listed;
-      same = next_same;
+      same = record { entries = next_same.entries; map = next_same.map; alike = next_same.alike; excepted = refl };
       pool_is = sym (ap (λ (u : Uber). u.pool) is.same.alike) ∙ is.sound.pool_is;
       known = next_certain;
       told = is.stays.told;

@@ -1,5 +1,5 @@
 -- A bank that holds what a stop left may be opened again.
-use Rattle.std.proofs.Common.{◌≡◌, ℕ, ◌<◌, List, ◌∷◌, Option, Some, refl, sym, ◌∙◌, ap, subst, [], arith}
+use Rattle.std.proofs.Common.{◌≡◌, ℕ, ◌<◌, List, ◌∷◌, Option, Some, refl, sym, ◌∙◌, ap, subst, arith}
 use Rattle.std.specs.Prelude.{Contains, IsSome}
 use Rattle.bank_trait.specs.Disk.{Image, Disk}
 use Rattle.bank_trait.specs.Regions.{Tells}
@@ -7,7 +7,7 @@ use Rattle.reconstruct.specs.Lost.{AreBytes}
 use Rattle.std.proofs.lemmas.Bool.Decides.{nat_tests}
 use Rattle.uberblock_ring.specs.Uberblock.{slot_of}
 use Rattle.core_state.specs.Shown.{Shape}
-use Rattle.core_state.specs.Keeps.{HaveParity, Kept, Setting, Keeps}
+use Rattle.core_state.specs.Keeps.{HaveParity, Kept, NoneExcepted, Setting, Keeps}
 use Rattle.core_state.specs.Collision.{BankKeeps, HasNoOtherPage, HasNoOtherUber}
 use Rattle.core_open.specs.Holds.{HoldsImage, shape_of}
 use Rattle.core_open.specs.Opening.{MayBegin}
@@ -56,7 +56,7 @@ alone_keeps setting first later disk image shape alone only keeps left might =
 -- A bank that holds alone what a stop left, where that keeps groups of one parity with bytes in their maps, may be
 -- opened again.
 pub stopped_begins : (setting : Setting) (first : Kept) (later : List Kept) (disk : Disk) (image : Image)
-    → setting.shape ≡ shape_of disk → setting.excepted ≡ [] → HoldsAlone disk image → IsImageOf setting.shape image
+    → setting.shape ≡ shape_of disk → NoneExcepted (first ∷ later) → HoldsAlone disk image → IsImageOf setting.shape image
     → Keeps setting first later image
     → HasNoOtherPage setting (first ∷ later) image
     → HaveParity first.uber.parity (first ∷ later)

@@ -17,7 +17,7 @@ use Rattle.core_state.proofs.Chosen.{chosen_held, chosen_group}
 use Rattle.core_state.proofs.Finding.{keeps_know}
 use Rattle.core_state.proofs.Fresh.{none_in}
 use Rattle.core_state.proofs.Keeping.{knows_keep}
-use Rattle.core_state.proofs.Knowing.{present, present_might}
+use Rattle.core_state.proofs.Knowing.{present}
 use Rattle.core_state.proofs.PoolChosen.{pool_there}
 use Rattle.core_open.specs.declared.opening.Opened.{Opened}
 use Rattle.core_open.specs.declared.why.OpenWhy.{OpenWhy}

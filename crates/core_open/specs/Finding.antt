@@ -1,5 +1,5 @@
 -- What an opening found, and why it found nothing.
-use Rattle.std.specs.Prelude.{◌≡◌, ◌≢◌, ℕ, ◌+◌, ◌^◌, ◌<◌, ◌≤◌, List, true, false, ⊤}
+use Rattle.std.specs.Prelude.{◌≡◌, ◌≢◌, ℕ, ◌+◌, ◌^◌, ◌<◌, ◌≤◌, List, [], true, false, ⊤}
 use Rattle.bank_trait.specs.Disk.{Image, Disk}
 use Rattle.block_record.specs.declared.entry.IndexEntry.{IndexEntry}
 use Rattle.uberblock_ring.specs.Devices.{has_device}
@@ -21,7 +21,7 @@ found_of shape image found map = record {
   shape = shape;
   silent = found.silent;
   image = image;
-  chosen = record { uber = found.uber; entries = found.entries.items; map = map };
+  chosen = record { uber = found.uber; entries = found.entries.items; map = map; excepted = [] };
 }
 
 -- The device shows a candidate of the uberblock's pool and group.

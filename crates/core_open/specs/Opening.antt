@@ -1,12 +1,12 @@
 -- What a pool begins with, and what an opening keeps that was cut short.
-use Rattle.std.specs.Prelude.{◌≡◌, ℕ, List, ◌∷◌, Contains, Some, ⊤, []}
+use Rattle.std.specs.Prelude.{◌≡◌, ℕ, List, ◌∷◌, Contains, Some, ⊤}
 use Rattle.bank_trait.specs.Disk.{Disk, Unchanged}
 use Rattle.reflow_mark.specs.Reflow.{sectors_of}
 use Rattle.block_record.specs.declared.entry.IndexEntry.{IndexEntry}
 use Rattle.reconstruct.specs.Lost.{AreBytes}
 use Rattle.uberblock_ring.specs.Devices.{IsWithin}
 use Rattle.uberblock_ring.specs.Uberblock.{Uber}
-use Rattle.core_state.specs.Keeps.{Kept, Setting}
+use Rattle.core_state.specs.Keeps.{Kept, NoneExcepted, Setting}
 use Rattle.core_blocks.specs.Blocks.{Blocks}
 use Rattle.core_blocks.specs.Loading.{IsTakenBy}
 use Rattle.core_open.specs.declared.why.OpenWhy.{OpenWhy}
@@ -23,10 +23,10 @@ pub record AreLoaded (uber : Uber) (entries : List IndexEntry) (blocks : Blocks)
   pub entries_are : blocks.table.entries ≡ entries
   pub space : IsTakenBy uber.parity uber.births (sectors_of uber.reflow) entries blocks.space
 
--- A pool may be opened where images keep these groups, whose maps hold bytes, with no place that may be wrong.
+-- A pool may be opened where images keep these groups, whose maps hold bytes of which none may be wrong.
 pub record MayBegin (setting : Setting) (first : Kept) (later : List Kept) (disk : Disk) : Type 0 where
   pub may : MayOpen setting first later disk
-  pub excepted : setting.excepted ≡ []
+  pub excepted : NoneExcepted (first ∷ later)
   pub bytes : (kept : Kept) (id : ℕ) (content : List ℕ) → Contains (first ∷ later) kept
       → kept.map id ≡ Some content → AreBytes content
 

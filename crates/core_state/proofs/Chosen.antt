@@ -156,8 +156,8 @@ module _ (setting : Setting) (first : Kept) (later : List Kept) (disk : Disk)
   pub chosen_group : uber.group ≡ kept.uber.group
   chosen_group = ap (λ (u : Uber). u.group) alike
 
-  pub chosen_same : SameGroup kept (record { uber = uber; entries = entries; map = kept.map })
-  chosen_same = record { entries = sym chosen_held.1; map = λ id. refl; alike = sym alike }
+  pub chosen_same : SameGroup kept (record { uber = uber; entries = entries; map = kept.map; excepted = kept.excepted })
+  chosen_same = record { entries = sym chosen_held.1; map = λ id. refl; alike = sym alike; excepted = refl }
 
   pub chosen_able : IsAble setting.shape disk device uber
   chosen_able = record {

@@ -322,6 +322,7 @@ module _ (setting : Setting) (first : Kept) (later : List Kept) (disk : Disk)
   certain_from : (d : ℕ) (uber : Uber) → IsAble setting.shape disk d uber
       → uber.pool ≡ setting.pool → first.uber.group ≤ uber.group
       → IsCertain setting disk (first ∷ later) uber
+  unfolding asks_of
   certain_from d uber is pool_is above =
       let might = showing_might d uber is in
       let shows = showing_shows d uber is in
@@ -342,21 +343,22 @@ module _ (setting : Setting) (first : Kept) (later : List Kept) (disk : Disk)
       -- in an image that shows it, a block's sector is right
       right_in : (image : Image) (held : IsKept setting image (first ∷ later) uber) (kept : Kept)
           → kept ≡ held.kept → AreAlike uber kept.uber → (e x : ℕ) (bytes : List ℕ)
-          → e < setting.shape.devices → has_device uber.out e ≡ false → Asks kept e x bytes
-          → (Contains setting.excepted (e, x) → ⊥)
+          → e < setting.shape.devices → has_device uber.out e ≡ false → (asks : Asks kept e x bytes)
+          → (Contains kept.excepted (asks.cell.sector, (e, x)) → ⊥)
           → image e x ≡ bytes
       right_in image held kept same alike e x bytes inside in_use asks not_odd =
           let own = asks_of kept uber e x bytes alike asks in
           let moved = moved_cell kept held.kept same own.0 own.1 in
-          let right = (held.whole.right own.0 e moved inside in_use).at x own.2 not_odd in
+          let right = (held.whole.right own.0 e moved inside in_use).at x own.2
+          (subst (λ (k : Kept). Contains k.excepted (asks.cell.sector, (e, x)) → ⊥) same not_odd) in
           some_same (image e x) own.0.bytes right ∙ own.3
 
       by : (held : IsKept setting (showing d uber) (first ∷ later) uber)
           → MightStand setting.shape disk disk.clock (showing d uber)
           → Shows setting.shape (showing d uber) d uber
           → (e x : ℕ) (bytes : List ℕ) → e < setting.shape.devices
-          → has_device uber.out e ≡ false → Asks held.kept e x bytes
-          → (Contains setting.excepted (e, x) → ⊥) → (o : Option (List ℕ)) → certain disk e x ≡ o
+          → has_device uber.out e ≡ false → (asks : Asks held.kept e x bytes)
+          → (Contains held.kept.excepted (asks.cell.sector, (e, x)) → ⊥) → (o : Option (List ℕ)) → certain disk e x ≡ o
           → certain disk e x ≡ Some bytes
       by held might shows e x bytes inside in_use asks not_odd (Some b) known =
           known ∙ ap (λ (k : List ℕ). Some k) (sym (might.fits.at e x b known)

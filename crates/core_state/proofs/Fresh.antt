@@ -176,7 +176,7 @@ module _ (setting : Setting) (parity width : ℕ) (image : Image) (sized : IsSiz
     fitting = fits_0;
   }
 
-  whole_0 : IsWhole setting.shape.devices setting.excepted image uber_0 [] no_blocks
+  whole_0 : IsWhole setting.shape.devices [] image uber_0 [] no_blocks
   whole_0 = record {
     index = record { listed = λ entry listed. absurd (omega (arith, listed.1)); every = λ id bytes held. absurd (none_some bytes held) };
     right = λ cell device of. absurd (omega (arith, of.listed.1));

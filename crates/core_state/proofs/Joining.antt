@@ -1,13 +1,12 @@
 -- How far a pool reaches. A device joins it: first the pool may reach to it, and once each group of the row has it the
 -- pool has it at least. A pool that reaches no further than its groups do is known as well where it was said to.
-use Rattle.std.proofs.Common.{◌≡◌, inl, inr, ⊎_elim, ℕ, ◌+◌, ◌<◌, ◌≤◌, List, ◌∷◌, false, Some}
+use Rattle.std.proofs.Common.{◌≡◌, inl, inr, ⊎_elim, ℕ, ◌+◌, ◌<◌, ◌≤◌, List, ◌∷◌, false}
 use Rattle.std.proofs.Common.{subst, arith, All}
 use Rattle.std.specs.Prelude.{Contains}
 use Rattle.std.proofs.lemmas.Bool.{cases_lt}
 use Rattle.bank_trait.specs.Disk.{Image, Disk}
 use Rattle.uberblock_ring.specs.Devices.{has_device}
 use Rattle.uberblock_ring.specs.Uberblock.{Uber, encoded, slot_of}
-use Rattle.uberblock_ring.specs.Valid.{IsRightUber}
 use Rattle.core_state.specs.Shown.{Shape, Shows, read_devices}
 use Rattle.core_state.specs.Keeps.{Kept, Setting, IsNotOutvoted, MayVoteFor}
 use Rattle.core_state.specs.Collision.{MightShow}

@@ -97,6 +97,7 @@ module _ (setting : Setting) (first : Kept) (later : List Kept) (disk : Disk)
   kept_from : (device : ℕ) (uber : Uber) → first.uber.group ≤ uber.group
       → Shows setting.shape image device uber → uber.pool ≡ setting.pool
       → IsKept setting image (first ∷ later) uber
+  unfolding asks_alike
   kept_from device uber above shows pool_is =
       let is : IsCertain setting disk (first ∷ later) uber = knows.only device uber
       (record {

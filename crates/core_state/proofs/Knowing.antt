@@ -241,8 +241,8 @@ page_frame here lost old new kept device frames away page = record {
 
 pub cells_frame : (here : ℕ → ℕ → Type 0) (lost : ℕ → Bool) (excepted : Excepted) (old new : Disk)
     (kept : Kept) (device : ℕ) → Frames here lost old new
-    → ((x : ℕ) (bytes : List ℕ) → Asks kept device x bytes → here device x
-    → Contains excepted (device, x))
+    → ((x : ℕ) (bytes : List ℕ) (asks : Asks kept device x bytes) → here device x
+    → Contains excepted (asks.cell.sector, (device, x)))
     → CellsOn excepted (certain old) kept device
     → CellsOn excepted (certain new) kept device
 cells_frame here lost excepted old new kept device frames away cells = record {
@@ -252,8 +252,8 @@ cells_frame here lost excepted old new kept device frames away cells = record {
 
 pub cells_read : (here : ℕ → ℕ → Type 0) (lost : ℕ → Bool) (excepted : Excepted) (old new : Disk)
     (kept : Kept) (device : ℕ) → Frames here lost old new → lost device ≡ false
-    → ((x : ℕ) (bytes : List ℕ) → Asks kept device x bytes → here device x
-    → Contains excepted (device, x))
+    → ((x : ℕ) (bytes : List ℕ) (asks : Asks kept device x bytes) → here device x
+    → Contains excepted (asks.cell.sector, (device, x)))
     → CellsOn excepted old.reads kept device
     → CellsOn excepted new.reads kept device
 cells_read here lost excepted old new kept device frames works away cells = record {
@@ -276,8 +276,8 @@ slot_frame here lost old new kept device frames away slot = record {
 -- What an uberblock asks for stays certain over a call that doesn't touch it.
 pub certain_frame : (here : ℕ → ℕ → Type 0) (lost : ℕ → Bool) (setting : Setting) (old new : Disk)
     (groups : List Kept) (uber : Uber) → Frames here lost old new
-    → ((kept : Kept) (d x : ℕ) (bytes : List ℕ) → Contains groups kept → Asks kept d x bytes
-    → here d x → Contains setting.excepted (d, x))
+    → ((kept : Kept) (d x : ℕ) (bytes : List ℕ) → Contains groups kept → (asks : Asks kept d x bytes)
+    → here d x → Contains kept.excepted (asks.cell.sector, (d, x)))
     → IsCertain setting old groups uber
     → IsCertain setting new groups uber
 certain_frame here lost setting old new groups uber frames away is = record {
@@ -286,7 +286,7 @@ certain_frame here lost setting old new groups uber frames away is = record {
   alike = is.alike;
   listing = is.listing;
   indexes = is.indexes;
-  cells = λ device inside in_use. cells_frame here lost setting.excepted old new is.kept device frames
+  cells = λ device inside in_use. cells_frame here lost is.kept.excepted old new is.kept device frames
       (λ x bytes asks h. away is.kept device x bytes is.listed asks h)
       (is.cells device inside in_use);
   out = is.out;

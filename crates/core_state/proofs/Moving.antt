@@ -2,7 +2,7 @@
 use Rattle.std.proofs.Common.{◌≡◌, inl, inr, ⊎_elim, ℕ, ◌<◌, ◌≤◌, List, [], ◌∷◌, Bool, true, false, refl, sym, ◌∙◌, ap}
 use Rattle.std.proofs.Common.{subst, arith}
 use Rattle.std.specs.Prelude.{Contains}
-use Rattle.bank_trait.specs.Disk.{Disk}
+use Rattle.bank_trait.specs.Disk.{Disk, Known}
 use Rattle.width_map.specs.declared.birth.Birth.{Birth}
 use Rattle.reflow_mark.specs.declared.reflow.Reflow.{Reflow}
 use Rattle.shadow_write.specs.Required.{IsRequiredPlace, front_after_stop}
@@ -13,9 +13,9 @@ use Rattle.uberblock_ring.specs.Valid.{AreAlike}
 use Rattle.commit_job.specs.declared.call.CommitCall.{CommitCall}
 use Rattle.commit_job.specs.declared.call.CommitCall.TheVariants.{IndexWrite, BaseSync, UberWrite, UberSync}
 use Rattle.core_state.specs.Index.{IsIndexOf, IsListing}
-use Rattle.core_state.specs.Whole.{Cell, IsCellOf}
+use Rattle.core_state.specs.Whole.{Excepted, Cell, IsCellOf}
 use Rattle.core_state.specs.Keeps.{Kept, Setting, SameGroup}
-use Rattle.core_state.specs.Certain.{Asks, IsSound, IsCertain, IsSuccession, Knows, certain}
+use Rattle.core_state.specs.Certain.{Asks, CellsOn, IsSound, IsCertain, IsSuccession, Knows, certain}
 use Rattle.core_state.specs.Committing.{Among, Point, HasBase, IsSealed, Unsigned, Signed}
 use Rattle.core_state.proofs.Places.{asks_device}
 use Rattle.core_state.proofs.Calls.{true_false}
@@ -117,6 +117,20 @@ asks_same one other device device_sector bytes same asks =
       bytes_are = asks.bytes_are;
     }
 
+-- and where what the one asks for is known, so it is of the other.
+pub cells_same : (one other : Kept) (known : Known) (device : ℕ) → SameGroup one other
+    → ((device_sector : ℕ) (bytes : List ℕ) → Asks other device device_sector bytes
+    → CellsOn other.excepted known other device)
+    → CellsOn one.excepted known one device
+unfolding asks_same
+cells_same one other known device same cells = record {
+  at = λ device_sector bytes asks none.
+      let asked = asks_same one other device device_sector bytes same asks in
+      (cells device_sector bytes asked).at device_sector bytes asked
+      (λ listed. none (subst (λ (o : Excepted). Contains o (asks.cell.sector, (device, device_sector)))
+      (sym same.excepted) listed));
+}
+
 -- What makes an uberblock that images may show from now on: it is that of a group of the row, the one
 -- that is being committed, and lists exactly the devices that are out.
 pub record MaySign (setting : Setting) (first : Kept) (more : List Kept) (next : Kept) (uber : Uber)
@@ -161,12 +175,9 @@ signs_begin setting first later more next uber plan late point may wider no_lay 
               let is = u_indexes.every id bytes (sym (may.same.map id) ∙ held) in
               (is.0, subst (λ (es : List IndexEntry). Contains es is.0) (sym may.same.entries) is.1, is.2);
         };
-        cells = λ device inside in_use. record {
-          at = λ x bytes asks not_odd.
-              let next_asks = asks_same may.kept next device x bytes may.same asks in
-              (base device (asks_device next device x bytes may.widths next_asks)
-              (sym (may.lists device) ∙ in_use)).1.at x bytes next_asks not_odd;
-        };
+        cells = λ device inside in_use. cells_same may.kept next (certain point.disk) device may.same
+            (λ x bytes asks. (base device (asks_device next device x bytes may.widths asks)
+            (sym (may.lists device) ∙ in_use)).1);
         out = λ device is. may.within device (sym (may.lists device) ∙ is);
       };
       lawful = u.lawful;

@@ -20,7 +20,7 @@ place_in reflow to row_end sector device device_sector state =
     IsRequiredPlace (record reflow { to = to; state = state })
     (front_after_stop (record reflow { to = to; state = state })) row_end sector device device_sector
 
-still_required : (reflow : Reflow) (to other row_end sector device device_sector : ℕ)
+pub still_required : (reflow : Reflow) (to other row_end sector device device_sector : ℕ)
     → place_in reflow to row_end sector device device_sector None
     → place_in reflow other row_end sector device device_sector None
 still_required reflow to other row_end sector device device_sector (inl old) = inl old
@@ -28,7 +28,7 @@ still_required reflow to other row_end sector device device_sector (inr (inl scr
     absurd (let filled = scratch.0.1 in omega (arith, filled))
 still_required reflow to other row_end sector device device_sector (inr (inr new)) = absurd (new.0)
 
-pub asks_resting : (kept : Kept) (to out device device_sector : ℕ) (bytes : List ℕ) → kept.uber.reflow.state ≡ None
+unfoldable pub asks_resting : (kept : Kept) (to out device device_sector : ℕ) (bytes : List ℕ) → kept.uber.reflow.state ≡ None
     → Asks (record kept { uber = record kept.uber { reflow = record kept.uber.reflow { to = to }; out = out } }) device
     device_sector bytes
     → Asks kept device device_sector bytes

@@ -31,8 +31,8 @@ pub record Asks (kept : Kept) (device device_sector : ℕ) (bytes : List ℕ) : 
 
 -- What a group asks for on a device is known.
 pub record CellsOn (excepted : Excepted) (known : Known) (kept : Kept) (device : ℕ) : Type 0 where
-  pub at : (device_sector : ℕ) (bytes : List ℕ) → Asks kept device device_sector bytes
-      → (Contains excepted (device, device_sector) → ⊥)
+  pub at : (device_sector : ℕ) (bytes : List ℕ) (asks : Asks kept device device_sector bytes)
+      → (Contains excepted (asks.cell.sector, (device, device_sector)) → ⊥)
       → known device device_sector ≡ Some bytes
 
 -- pieces end to end
@@ -85,7 +85,7 @@ pub record IsCertain (setting : Setting) (disk : Disk) (groups : List Kept) (ube
     pub listing : IsListing kept.entries uber.count
     pub indexes : IsIndexOf kept.entries kept.map
     pub cells : (device : ℕ) → device < setting.shape.devices → has_device uber.out device ≡ false
-        → CellsOn setting.excepted (certain disk) kept device
+        → CellsOn kept.excepted (certain disk) kept device
     pub out : IsWithin uber.out setting.failed
 
 -- The groups are a row that an image may keep, and a device of the first has not failed.

@@ -14,5 +14,5 @@ pub record IsSpare (setting : Setting) (first : Kept) (later : List Kept)
       → part < page_sectors first.uber.count
       → device_sector ≢ area_sector first.uber.area + part
   pub cells : (kept : Kept) (bytes : List ℕ) → Contains (first ∷ later) kept
-      → Asks kept device device_sector bytes
-      → Contains setting.excepted (device, device_sector)
+      → (asks : Asks kept device device_sector bytes)
+      → Contains kept.excepted (asks.cell.sector, (device, device_sector))

@@ -21,5 +21,5 @@ MayRun reflow done (Chunk lo hi) = (reflow.state ≡ Moved) × (lo ≡ done) × 
 -- A cell is right at the place to which a job copies it.
 pub record IsCopied (excepted : Excepted) (disk : Disk) (out : ℕ) (spot : Spot) (cell : Cell) : Type 0 where
   pub there : has_device out spot.1.device ≡ false
-      → (Contains excepted (spot.1.device, spot.0 + spot.1.row) → ⊥)
+      → (Contains excepted (cell.sector, (spot.1.device, spot.0 + spot.1.row)) → ⊥)
       → disk.reads spot.1.device (spot.0 + spot.1.row) ≡ Some cell.bytes

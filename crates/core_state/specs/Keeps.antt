@@ -13,25 +13,28 @@ use Rattle.core_state.specs.Shown.{Shape, read_devices, Shows, Gives, IsCandidat
 use Rattle.core_state.specs.Choosing.{Names, Outvotes}
 use Rattle.core_state.specs.Whole.{Excepted, IsWhole}
 
--- a group: its uberblock but for the out set, its index, and its map
+-- a group: its uberblock but for the out set, its index, its map, and what may be wrong of its blocks
 pub record Kept : Type 0 where
   pub uber : Uber
   pub entries : List IndexEntry
   pub map : Map
+  pub excepted : Excepted
 
--- the bank, the pool, how many devices it has at least and at most, the devices that have failed, and
--- places that may be wrong
+-- the bank, the pool, how many devices it has at least and at most, and the devices that have failed
 pub record Setting : Type 0 where
   pub shape : Shape
   pub pool : ℕ
   pub base : ℕ
   pub reach : ℕ
   pub failed : ℕ
-  pub excepted : Excepted
 
 -- The groups have this parity.
 abbrev pub HaveParity : ℕ → List Kept → Type 0
 HaveParity parity groups = (kept : Kept) → Contains groups kept → kept.uber.parity ≡ parity
+
+-- Of none of the groups anything may be wrong.
+abbrev pub NoneExcepted : List Kept → Type 0
+NoneExcepted groups = (kept : Kept) → Contains groups kept → kept.excepted ≡ []
 
 -- A device shows a candidate of the pool, with a page that some device gives.
 abbrev pub ShowsCandidate : Setting → Image → ℕ → Uber → List IndexEntry → Type 0
@@ -46,7 +49,7 @@ pub record IsKept (setting : Setting) (image : Image) (groups : List Kept) (uber
     pub listed : Contains groups kept
     pub alike : AreAlike uber kept.uber
     pub listing : IsListing kept.entries uber.count
-    pub whole : IsWhole setting.shape.devices setting.excepted image uber kept.entries kept.map
+    pub whole : IsWhole setting.shape.devices kept.excepted image uber kept.entries kept.map
     pub out : IsWithin uber.out setting.failed
 
 -- Each valid uberblock of the pool from the first group on, on any device, is of these groups,
@@ -84,6 +87,7 @@ pub record SameGroup (one other : Kept) : Type 0 where
   pub entries : one.entries ≡ other.entries
   pub map : SameMap one.map other.map
   pub alike : AreAlike one.uber other.uber
+  pub excepted : one.excepted ≡ other.excepted
 
 -- The group of an opening: the index page, the map and all else of the chosen one, numbered two more.
 -- Its out set is made up at its first uberblock write.
@@ -91,6 +95,7 @@ pub record Renews (chosen next : Kept) : Type 0 where
   pub entries : next.entries ≡ chosen.entries
   pub map : SameMap next.map chosen.map
   pub alike : AreAlike next.uber (record chosen.uber { group = chosen.uber.group + 2 })
+  pub excepted : next.excepted ≡ chosen.excepted
 
 -- The widths of two groups differ by one device at most.
 pub record AreNearWidths (one other : Kept) : Type 0 where

@@ -116,8 +116,8 @@ pub record LiesInPool (core : Core) (kept : Kept) : Type 0 where
   pub inside : (entry : IndexEntry) → Contains kept.entries entry
       → IsInPool (layout_of core.pool.uber.parity core.pool.uber.births entry) core.pool.uber.reflow
 
--- The group after the last answered one is under way: it has come so far, and no sector of its blocks is free or
--- a put's.
+-- The group after the last answered one is under way: it has come so far, no sector of its blocks is free or a put's,
+-- and nothing of it may be wrong.
 pub record CommitStands (setting : Setting) (last : Kept) (begun : List Kept) (calls : List HoldingCall)
     (run : CommitRun) (state : CoreState) : Type 0 where
   pub next : Kept
@@ -126,6 +126,7 @@ pub record CommitStands (setting : Setting) (last : Kept) (begun : List Kept) (c
   pub come : IsCommitting setting last next run (point_of state.core.pool.out state.disk)
   pub lies : LiesInPool state.core next
   pub kept : NoneFree state.core.pool.blocks state.core.begun next.entries
+  pub excepted : next.excepted ≡ []
   pub spared : PutsSpare state calls next
 
 -- No commit is under way. One that was cut short was so because too many devices are out, and images may show
@@ -150,14 +151,14 @@ shown_of begun (Some run) = shown_in begun run.stage
 
 -- Between two turns: the last answered group is certain on the devices, and what is known of one that was begun
 -- after it; the map is held; each call under way goes on as it should, with the bytes of its actor's block. No sector
--- of the last group's blocks is free or a put's.
+-- of the last group's blocks is free or a put's, and nothing of it may be wrong.
 pub record Stands (setting : Setting) (last : Kept) (begun : List Kept) (map : Map) (contents : ℕ → List ℕ)
     (calls : List HoldingCall) (commit : Option CommitRun) (state : CoreState) : Type 0 where
   pub groups : GroupsStand setting last begun calls commit state
   pub alike : AreAlike state.core.pool.uber last.uber
   pub kept : NoneFree state.core.pool.blocks state.core.pool.uber.group last.entries
   pub spared : PutsSpare state calls last
-  pub excepted : setting.excepted ≡ []
+  pub excepted : last.excepted ≡ []
   pub shape : setting.shape ≡ shape_of state.disk
   pub tells : Tells state.disk
   pub bank : HasBankOf state.core state.disk

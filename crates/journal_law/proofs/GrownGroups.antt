@@ -176,6 +176,7 @@ group_of_grown handed opening items group kept more within is = record {
   widths = is.widths;
   map = λ id. is.map id
       ∙ ap (λ (map : Map). map id) (sym (map_before handed opening items more group.after within));
+  excepted = is.excepted;
 }
 
 -- Behind the first item of a journal there is always a group before.

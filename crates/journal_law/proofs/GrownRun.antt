@@ -109,6 +109,7 @@ begun_grown calls handed opening items more last kept is = record {
   listed = (is.listed.0, omega (arith, is.listed.1, length-append items more));
   map = λ id. is.map id ∙ ap (λ (map : Map). map id)
       (sym (map_before handed opening items more is.after is.listed.1));
+  excepted = is.excepted;
   widths = width_step_where last (item_of kept is.after) (awaits_grown calls items more is.after is.listed.1) is.widths;
 }
 

@@ -1,5 +1,5 @@
 -- Where groups stand in the list of a run's.
-use Rattle.std.proofs.Common.{List, ◌∷◌, ◌++◌, sym, ap, subst}
+use Rattle.std.proofs.Common.{List, ◌∷◌, ◌++◌, sym, subst}
 use Rattle.std.proofs.lemmas.List.Elements.{Contains-append_left, Contains-append_right}
 use Rattle.std.specs.Prelude.{Contains}
 use Rattle.core_state.specs.Keeps.{Kept}

@@ -218,7 +218,7 @@ module _ (call : TopCall) (made : NewPool) (served_as : IsServedAs call.words (s
   kept fits created later tells = record {
     made = created;
     keeps = bank_keeps fits created;
-    begins = λ setting new excepted others. new_begins call made.parity made.width made.id later tells setting new excepted
+    begins = λ setting new others. new_begins call made.parity made.width made.id later tells setting new
         (bank_keeps fits created setting new others);
   }
 

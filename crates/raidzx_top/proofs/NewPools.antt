@@ -15,7 +15,7 @@ use Rattle.raidzx_top.specs.Promises.{IsNewSetting}
 -- The bank meets what a run asks for: it keeps the pool's first group, without blocks. As for each
 -- opening, no uberblock or page on the bank may be another's by chance.
 module _ (call : TopCall) (parity width id : ℕ) (later : Later call.old call.new) (tells : Tells call.old)
-    (setting : Setting) (new : IsNewSetting call parity width id setting) (excepted : setting.excepted ≡ []) where
+    (setting : Setting) (new : IsNewSetting call parity width id setting) where
   abbrev first : Kept
   first = first_kept id parity width call.old.sectors
 
@@ -33,7 +33,7 @@ module _ (call : TopCall) (parity width id : ℕ) (later : Later call.old call.n
       no_other = no_other;
       parity = λ kept listed. ap (λ (k : Kept). k.uber.parity) (contains_one first kept listed);
     };
-    excepted = excepted;
+    excepted = λ kept listed. ap (λ (k : Kept). k.excepted) (contains_one first kept listed);
     bytes = λ kept id content listed has. absurd (no_block id content
         (subst (λ (k : Kept). k.map id ≡ Some content) (contains_one first kept listed) has));
   }

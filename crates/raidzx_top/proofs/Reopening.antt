@@ -39,9 +39,13 @@ use Rattle.raidzx_top.specs.Reopened.{last_groups}
 same_shape : (old new : Disk) → Later old new → shape_of new ≡ shape_of old
 same_shape old new later = λ i. record { devices = later.devices i; sectors = later.sectors i }
 
--- The groups have maps of bytes.
-abbrev HaveBytes : List Kept → Type 0
-HaveBytes groups = (kept : Kept) → Contains groups kept → HoldsBytes kept.map
+-- A group has a map of bytes, of which none may be wrong.
+record HoldsRight (kept : Kept) : Type 0 where
+  bytes : HoldsBytes kept.map
+  excepted : kept.excepted ≡ []
+
+abbrev HoldRight : List Kept → Type 0
+HoldRight groups = (kept : Kept) → Contains groups kept → HoldsRight kept
 
 -- Each group that was answered is one of the journal's.
 answered_is : (handed : PutBytes) (opening : Map) (items : List Item) (groups : List GroupItem) (answered : List Kept)
@@ -65,12 +69,12 @@ taken_there (item ∷ items) (suc count) (suc index) entry there = taken_there i
 
 -- An image that keeps some of the groups in a row is read back as one of them.
 read_back : (setting : Setting) (reach : ℕ) (groups : List Kept) (opened first : Kept) (later : List Kept) (image : Image)
-    → setting.excepted ≡ [] → IsImageOf setting.shape image
+    → IsImageOf setting.shape image
     → Keeps (record setting { reach = reach }) first later image
     → ReachesNoFurther (first ∷ later) reach
     → ((kept : Kept) → Contains (first ∷ later) kept → Contains groups kept)
-    → HaveParity opened.uber.parity groups → HaveBytes groups → IsReadBack setting groups image
-read_back setting reach groups opened first later image excepted only keeps no_further among parity bytes = record {
+    → HaveParity opened.uber.parity groups → HoldRight groups → IsReadBack setting groups image
+read_back setting reach groups opened first later image only keeps no_further among parity right = record {
   reach = reach;
   no_further = reaches_among (first ∷ later) groups reach among no_further;
   opened = λ disk left. record {
@@ -83,10 +87,11 @@ read_back setting reach groups opened first later image excepted only keeps no_f
 }
   where
     may : (disk : Disk) → IsLeftOn setting groups image disk → MayBegin (record setting { reach = reach }) first later disk
-    may disk left = stopped_begins (record setting { reach = reach }) first later disk image left.shape excepted left.alone only keeps
+    may disk left = stopped_begins (record setting { reach = reach }) first later disk image left.shape
+        (λ one listed. (right one (among one listed)).excepted) left.alone only keeps
         (record { page = λ one shower giver uber listed. left.pages.page one shower giver uber (among one listed) })
         (λ one listed. parity one (among one listed) ∙ sym (parity first (among first (contains_head first later))))
-        (λ one id content listed. bytes one (among one listed) id content)
+        (λ one id content listed. (right one (among one listed)).bytes id content)
 
     reads : (script : Script) (old new : Disk) (items : List Item) (out : ℕ) → (run : HasRun script old new items out)
         → IsLeftOn setting groups image old → IsWithinBelow reach run.silent setting.failed
@@ -116,8 +121,11 @@ module _ (script : Script) (old new : Disk) (items : List Item) (out : ℕ) (run
   abbrev run_groups : List Kept
   run_groups = (first ∷ later) ++ keeps.any_moment.groups.answered ++ keeps.any_moment.groups.begun
 
-  known_bytes : HaveBytes (first ∷ later)
-  known_bytes kept listed id content has = may.bytes kept id content listed has
+  known_right : HoldRight (first ∷ later)
+  known_right kept listed = record {
+    bytes = λ id content has. may.bytes kept id content listed has;
+    excepted = may.excepted kept listed;
+  }
 
   hands : HandsBytes (handed_by script) items
   hands = script_hands script keeps.chosen.map items allowed keeps.journal.legal
@@ -126,38 +134,44 @@ module _ (script : Script) (old new : Disk) (items : List Item) (out : ℕ) (run
   map_bytes : (part : List Item) → HandsBytes (handed_by script) part → (kept : Kept) (count : ℕ)
       → SameMap kept.map (map_after (handed_by script) keeps.chosen.map part count) → HoldsBytes kept.map
   map_bytes part part_hands kept count same id content has =
-      after_bytes (handed_by script) keeps.chosen.map part count part_hands (known_bytes keeps.chosen keeps.origin.known)
+      after_bytes (handed_by script) keeps.chosen.map part count part_hands
+      (known_right keeps.chosen keeps.origin.known).bytes
       id content (sym (same id) ∙ has)
 
   -- one that was begun and not answered,
-  begun_bytes : (groups : List GroupItem) (kept : Kept)
+  begun_right : (groups : List GroupItem) (kept : Kept)
       → IsUnanswered (asked_by script) (handed_by script) keeps.chosen.map items (first ∷ later) groups kept
-      → HoldsBytes kept.map
-  begun_bytes [] kept is id content has = known_bytes is.0 is.1 id content (sym (is.2.map id) ∙ has)
-  begun_bytes (group ∷ groups) kept is id content has = map_bytes items hands kept is.after is.map id content has
+      → HoldsRight kept
+  begun_right [] kept is = record {
+    bytes = λ id content has. (known_right is.0 is.1).bytes id content (sym (is.2.map id) ∙ has);
+    excepted = is.2.excepted ∙ (known_right is.0 is.1).excepted;
+  }
+  begun_right (group ∷ groups) kept is =
+      record { bytes = map_bytes items hands kept is.after is.map; excepted = is.excepted }
 
-  all_bytes : HaveBytes run_groups
-  all_bytes kept listed = ⊎_elim
-      (λ before. ⊎_elim (λ known. known_bytes kept known)
+  all_right : HoldRight run_groups
+  all_right kept listed = ⊎_elim
+      (λ before. ⊎_elim (λ known. known_right kept known)
       (λ answered.
       let is = answered_is (handed_by script) keeps.chosen.map items (groups_in items)
       keeps.any_moment.groups.answered kept keeps.any_moment.groups.each answered in
-      map_bytes items hands kept is.0.after is.1.map)
+      record { bytes = map_bytes items hands kept is.0.after is.1.map; excepted = is.1.excepted })
       (Contains-append_cases (first ∷ later) keeps.any_moment.groups.answered kept before))
-      (λ begun. begun_bytes (groups_in items) kept (keeps.any_moment.groups.unanswered kept begun))
+      (λ begun. begun_right (groups_in items) kept (keeps.any_moment.groups.unanswered kept begun))
       (Contains-append_cases ((first ∷ later) ++ keeps.any_moment.groups.answered) keeps.any_moment.groups.begun kept
       listed)
 
   -- and the last group of some items with those begun after it.
-  last_bytes : (part : List Item) → HandsBytes (handed_by script) part → (item : GroupItem) (last : Kept)
+  last_right : (part : List Item) → HandsBytes (handed_by script) part → (item : GroupItem) (last : Kept)
       (begun : List Kept) → IsGroupOf (handed_by script) keeps.chosen.map part item last
       → ((kept : Kept) → Contains begun kept
       → IsBegunAfter (asked_by script) (handed_by script) keeps.chosen.map part item kept)
-      → HaveBytes (last ∷ begun)
-  last_bytes part part_hands item last begun last_is begun_is kept listed = ⊎_elim
-      (λ same. subst (λ (k : Kept). HoldsBytes k.map) (sym same)
-      (map_bytes part part_hands last item.after last_is.map))
-      (λ here. let is = begun_is kept here in map_bytes part part_hands kept is.after is.map)
+      → HoldRight (last ∷ begun)
+  last_right part part_hands item last begun last_is begun_is kept listed = ⊎_elim
+      (λ same. subst HoldsRight (sym same)
+      (record { bytes = map_bytes part part_hands last item.after last_is.map; excepted = last_is.excepted }))
+      (λ here. let is = begun_is kept here in
+      record { bytes = map_bytes part part_hands kept is.after is.map; excepted = is.excepted })
       (contains_cases last begun kept listed)
 
   any_moment : (moment : ℕ) (image : Image) → old.clock ≤ moment → moment ≤ new.clock
@@ -165,9 +179,9 @@ module _ (script : Script) (old new : Disk) (items : List Item) (out : ℕ) (run
       → IsReadBack setting run_groups image
   any_moment moment image since until left =
       let some = keeps.any_moment.since.each moment since until in
-      read_back setting some.reach run_groups first some.first some.later image may.excepted left.only
+      read_back setting some.reach run_groups first some.first some.later image left.only
       (some.keeps image left.might) some.no_further
-      (row_among (record { before = some.before; after = some.after; row = some.row })) keeps.groups.parities all_bytes
+      (row_among (record { before = some.before; after = some.after; row = some.row })) keeps.groups.parities all_right
 
   by_then : (count : ℕ) (some : 1 ≤ count) (all : count ≤ length items) (moment : ℕ) (image : Image)
       → (banks_of run count).clock ≤ moment → moment ≤ (banks_of run (count + 1)).clock
@@ -179,19 +193,19 @@ module _ (script : Script) (old new : Disk) (items : List Item) (out : ℕ) (run
       let part_hands : HandsBytes (handed_by script) (take count items) = record {
         each = λ index entry there. hands.each index entry (taken_there items count index entry there);
       } in
-      read_back setting found.reach (last_groups until) first found.first found.later image may.excepted left.only
+      read_back setting found.reach (last_groups until) first found.first found.later image left.only
       (found.keeps image left.might) found.no_further
       (row_among (record { before = found.before; after = found.after; row = found.row }))
       (until.parity first (contains_head first later))
-      (last_bytes (take count items) part_hands until.kept.group until.kept.last until.onward until.kept.last_is
+      (last_right (take count items) part_hands until.kept.group until.kept.last until.onward until.kept.last_is
       until.onward_is)
 
   at_end : (image : Image) → IsLeft setting new new.clock image
       → IsReadBack setting (keeps.kept.last ∷ keeps.kept.begun) image
   at_end image left = read_back setting keeps.kept.reach (keeps.kept.last ∷ keeps.kept.begun) first keeps.kept.last keeps.kept.begun
-      image may.excepted left.only (keeps.kept.keeps image left.might) keeps.kept.no_further (λ kept listed. listed)
+      image left.only (keeps.kept.keeps image left.might) keeps.kept.no_further (λ kept listed. listed)
       (λ kept has. keeps.groups.parities kept (keeps.groups.kept_among kept has))
-      (last_bytes items hands keeps.kept.group keeps.kept.last keeps.kept.begun keeps.kept.last_is
+      (last_right items hands keeps.kept.group keeps.kept.last keeps.kept.begun keeps.kept.last_is
       keeps.kept.begun_is)
 
   -- A run may begin on the bank that is given back.
@@ -209,11 +223,14 @@ module _ (script : Script) (old new : Disk) (items : List Item) (out : ℕ) (run
       parity = λ kept listed. parity_is kept listed
           ∙ sym (parity_is keeps.kept.last (contains_head keeps.kept.last keeps.kept.begun));
     };
-    excepted = may.excepted;
-    bytes = λ kept id content listed. last_bytes items hands keeps.kept.group keeps.kept.last keeps.kept.begun
-        keeps.kept.last_is keeps.kept.begun_is kept listed id content;
+    excepted = λ kept listed. (right kept listed).excepted;
+    bytes = λ kept id content listed. (right kept listed).bytes id content;
   }
     where
+      right : HoldRight (keeps.kept.last ∷ keeps.kept.begun)
+      right = last_right items hands keeps.kept.group keeps.kept.last keeps.kept.begun keeps.kept.last_is
+          keeps.kept.begun_is
+
       parity_is : (kept : Kept) → Contains (keeps.kept.last ∷ keeps.kept.begun) kept
           → kept.uber.parity ≡ first.uber.parity
       parity_is kept listed = keeps.groups.parities kept (keeps.groups.kept_among kept listed)
@@ -239,12 +256,17 @@ module _ (setting : Setting) (first : Kept) (later : List Kept) (old : Disk) (ma
           ap (λ (u : Uber). u.parity) from.2.alike ∙ may.may.parity from.0 from.1)
           (Contains-append_cases (first ∷ later) joined kept listed)
 
-      joined_bytes : HaveBytes ((first ∷ later) ++ joined)
-      joined_bytes kept listed id content has = ⊎_elim
-          (λ known. may.bytes kept id content known has)
+      joined_right : HoldRight ((first ∷ later) ++ joined)
+      joined_right kept listed = ⊎_elim
+          (λ known. record {
+            bytes = λ id content has. may.bytes kept id content known has;
+            excepted = may.excepted kept known;
+          })
           (λ here.
-          let from = adds.renews kept here in
-          may.bytes from.0 id content from.1 (sym (from.2.map id) ∙ has))
+          let from = adds.renews kept here in record {
+            bytes = λ id content has. may.bytes from.0 id content from.1 (sym (from.2.map id) ∙ has);
+            excepted = from.2.excepted ∙ may.excepted from.0 from.1;
+          })
           (Contains-append_cases (first ∷ later) joined kept listed)
 
       some_back : {new : Disk} → Later old new → KeepsSince setting ((first ∷ later) ++ joined) old.clock new
@@ -260,14 +282,14 @@ module _ (setting : Setting) (first : Kept) (later : List Kept) (old : Disk) (ma
           later = now.later;
           among = row_among (record { before = now.before; after = now.after; row = now.row });
           may = goes_on_begins setting ((first ∷ later) ++ joined) first.uber.parity new now
-              (may.may.shape ∙ sym (same_shape old new onward)) may.excepted told.tells told.no_other joined_parity
-              (λ kept id content listed. joined_bytes kept listed id content);
+              (may.may.shape ∙ sym (same_shape old new onward)) (λ kept listed. (joined_right kept listed).excepted) told.tells told.no_other joined_parity
+              (λ kept id content listed. (joined_right kept listed).bytes id content);
         };
         any_moment = λ moment image from until left.
             let some = since.each moment from until in
-            read_back setting some.reach ((first ∷ later) ++ joined) first some.first some.later image may.excepted left.only
+            read_back setting some.reach ((first ∷ later) ++ joined) first some.first some.later image left.only
             (some.keeps image left.might) some.no_further
-            (row_among (record { before = some.before; after = some.after; row = some.row })) joined_parity joined_bytes;
+            (row_among (record { before = some.before; after = some.after; row = some.row })) joined_parity joined_right;
       }
         where
           now : KeepsRow setting ((first ∷ later) ++ joined) new new.clock

@@ -69,7 +69,7 @@ pub record CreatePromises (call : TopCall) (parity width id : ℕ) : Type 0 wher
   pub made : IsCreated (first_uber id parity width (rows_for call.old.sectors)) call.new
   pub keeps : (setting : Setting) → IsNewSetting call parity width id setting → NoneShowsFrom call width
       → BankKeeps setting (first_kept id parity width call.old.sectors) [] call.new
-  pub begins : (setting : Setting) → IsNewSetting call parity width id setting → setting.excepted ≡ []
+  pub begins : (setting : Setting) → IsNewSetting call parity width id setting
       → NoneShowsFrom call width → HoldsNoOther setting (first_kept id parity width call.old.sectors ∷ []) call.new
       → MayBegin setting (first_kept id parity width call.old.sectors) [] call.new
 

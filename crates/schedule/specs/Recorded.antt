@@ -54,13 +54,14 @@ pub record IsRightNext (world : World) (items : List Item) (entry : Entry) (disk
   pub sound : entry.answer ≢ answer.Damaged
   pub caused : IsAnswerCause items (length items) disk entry.answer
 
--- A commit of this group began after so many items, those of the last group or later ones. It has that group's widths,
--- ends its expansion, or begins one where that may be.
+-- A commit of this group began after so many items, those of the last group or later ones. Nothing of it may be wrong.
+-- It has that group's widths, ends its expansion, or begins one where that may be.
 pub record IsBegunAt (world : World) (items : List Item) (item : GroupItem) (after : ℕ) (attached : Type 0)
     (next : Kept) : Type 0 where
   pub number : next.uber.group ≡ item.group + 1
   pub listed : (item.after ≤ after) × (after ≤ length items)
   pub map : SameMap next.map (map_after world.handed world.opening items after)
+  pub excepted : next.excepted ≡ []
   pub widths : IsWidthStep attached item (item_of next after)
 
 -- All entries of this caller stand below this index.

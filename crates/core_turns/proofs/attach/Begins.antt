@@ -42,7 +42,7 @@ module _ {setting : Setting} {last : Kept} {begun : List Kept} {map : Map} {cont
   alone : Stands narrow last [] map contents calls None before
   alone = narrow_stands (rw (stands.groups.whole (few_out before.core joins.begins.few)).0 at stands)
 
-  begins : (next : Kept) × (next.map ≡ map) × (next.uber.group ≡ after.core.begun)
+  begins : (next : Kept) × (next.map ≡ map) × (next.excepted ≡ []) × (next.uber.group ≡ after.core.begun)
       × KeepsOrEnds before.core.pool.uber.reflow next.uber.reflow × (next.uber.parity ≡ before.core.pool.uber.parity)
       × Stands narrow last (next ∷ []) map contents calls (Some join.run) (at_disk after.core before.disk)
   begins = commit_begins_stands lawful is joins.table joins.begins are alone
@@ -50,28 +50,28 @@ module _ {setting : Setting} {last : Kept} {begun : List Kept} {map : Map} {cont
   -- It keeps the pool's widths so far.
   kept : begins.0.uber.reflow ≡ before.core.pool.uber.reflow
   kept =
-      let was = begins.5.groups in
+      let was = begins.6.groups in
       let same : was.next ≡ begins.0 = cc (was.begun_is) in
       let reach = ap (λ (c : Core). c.reach) (sym joins.begins.rest) ∙ was.of.reach in
       ap (λ (k : Kept). k.uber.reflow) (sym same) ∙ ap (λ (u : Uber). u.reflow) (sym was.come.alike)
       ∙ rest_records before.core join.run.uber.reflow is of.0.may reach (Chooses before.core.holds joins.begins.choice)
 
   widenable : IsWidenable narrow last begins.0
-  widenable = search (kept, begins.2, alone.shape, there, arith)
+  widenable = search (kept, begins.3, alone.shape, there, arith)
 
   -- The device shows no uberblock, and nothing is laid on it yet.
   guest : GuestSoFar before.disk begins.0 width (Laid 0)
   guest = search (free_is_blank, width, arith)
 
   -- What stands goes on standing with the commit, in a pool that reaches as far as its last group does.
-  pub attach_joins_stands : (next : Kept) × (next.map ≡ map) × (next.uber.group ≡ after.core.begun)
+  pub attach_joins_stands : (next : Kept) × (next.map ≡ map) × (next.excepted ≡ []) × (next.uber.group ≡ after.core.begun)
       × (next.uber.reflow ≡ before.core.pool.uber.reflow) × (next.uber.parity ≡ before.core.pool.uber.parity)
       × Stands narrow last (next ∷ []) map contents calls (Some join.run) after
       × HoldsAttach narrow last (next ∷ []) after.disk (Joins join)
   attach_joins_stands =
       let stood : (disk : Disk) → disk ≡ before.disk
       → Stands narrow last (begins.0 ∷ []) map contents calls (Some join.run) (at_disk after.core disk) =
-      λ disk same. rw same begins.5 in
+      λ disk same. rw same begins.6 in
       let holds : HoldsAttach narrow last (begins.0 ∷ []) after.disk (Joins join) =
       search (widenable, width, guest, arith) in
-      (begins.0, begins.1, begins.2, kept, begins.4, stood after.disk joins.disk, holds)
+      (begins.0, begins.1, begins.2, begins.3, kept, begins.5, stood after.disk joins.disk, holds)

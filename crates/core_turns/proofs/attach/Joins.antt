@@ -63,6 +63,7 @@ joined_stands {setting} {last} {next} {map} {contents} {calls} core run disk is 
       come = search (commit_widened, rw its at was.come);
       lies = search (rw its at was.lies);
       kept = rw its at was.kept;
+      excepted = rw its at was.excepted;
       spared = rw its at was.spared;
     } in
     search (calls_hold_on contents calls core (record core { reach = core.reach + 1 }) disk refl stands.each)

@@ -155,5 +155,6 @@ module _ {old new : Core} {run : CopyRun} {left calls : List HoldingCall} (is : 
         come = groups.come;
         lies = search;
         kept = groups.kept;
+        excepted = groups.excepted;
         spared = λ put listed. groups.spared put (call_loses gains put listed);
       }

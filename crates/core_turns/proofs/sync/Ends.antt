@@ -128,11 +128,12 @@ module _ (core : Core) (run : CommitRun) (is : IsCore core) (of : IsCommitOf cor
     pub ended_stands : (setting : Setting) (last next : Kept) (map : Map) (contents : ℕ → List ℕ)
         (calls : List HoldingCall) (disk : Disk) → Knows setting next [] disk
         → record run.uber { out = 0 } ≡ record next.uber { out = 0 } → LiesInPool core next
-        → NoneFree core.pool.blocks core.begun next.entries → PutsSpare (at_disk core disk) calls next
+        → NoneFree core.pool.blocks core.begun next.entries → next.excepted ≡ []
+        → PutsSpare (at_disk core disk) calls next
         → AreCallsOf core calls → {commit : Option CommitRun}
         → Stands setting last (next ∷ []) map contents calls commit (at_disk core disk)
         → Stands setting next [] map contents calls None (at_disk answered disk)
-    ended_stands setting last next map contents calls disk knows alike lies kept spared are stands =
+    ended_stands setting last next map contents calls disk knows alike lies kept excepted spared are stands =
         let rows = core_rows core chosen is of.next.choice in
         let none_free : NoneFree answered.pool.blocks answered.pool.uber.group next.entries =
         search (answered_kept, pool, on, born_by_now, arith) in

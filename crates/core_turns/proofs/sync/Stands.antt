@@ -37,18 +37,23 @@ pub commit_begins_stands : {setting : Setting} {last : Kept} {begun : List Kept}
     {calls : List HoldingCall} {old new : Core} {disk : Disk} {actor : ℕ} {run : CommitRun}
     → Lawful disk → IsCore old → IsTable old.pool.blocks.table → BeginsCommit old new actor (More run)
     → AreCallsOf old calls → Stands setting last begun map contents calls None (at_disk old disk)
-    → (next : Kept) × (next.map ≡ map) × (next.uber.group ≡ new.begun)
+    → (next : Kept) × (next.map ≡ map) × (next.excepted ≡ []) × (next.uber.group ≡ new.begun)
     × KeepsOrEnds old.pool.uber.reflow next.uber.reflow × (next.uber.parity ≡ old.pool.uber.parity)
     × Stands setting last (next ∷ []) map contents calls (Some run) (at_disk new disk)
 commit_begins_stands {setting} {last} {begun} {map} {contents} {calls} {old} {new} {disk} {actor} {run} lawful is table
-    begins are stands = (next, refl, search (rests, arith), widths, refl, rw begins.rest (rw begins.run_is now))
+    begins are stands = (next, refl, refl, search (rests, arith), widths, refl, rw begins.rest (rw begins.run_is now))
   where
     chosen : Reflow
     chosen = run.uber.reflow
 
     -- the group that is made
     next : Kept
-    next = record { uber = uber_for old.pool chosen; entries = old.pool.blocks.table.entries; map = map }
+    next = record {
+      uber = uber_for old.pool chosen;
+      entries = old.pool.blocks.table.entries;
+      map = map;
+      excepted = [];
+    }
 
     -- the core once it is begun
     begun_core : Core
@@ -87,6 +92,7 @@ commit_begins_stands {setting} {last} {begun} {map} {contents} {calls} {old} {ne
             inside = λ entry has. listed_in_pool (as_begun old) entry is.is is.step (listed entry has);
           };
           kept = search blocks_kept;
+          excepted = refl;
           spared = search spare_table;
         } in
         search (calls_hold_on contents calls old begun_core disk refl alone.each)

@@ -164,6 +164,7 @@ module _ {script : Script} {actor : ℕ} {before after : TurnState} {clients new
             number = begun_is.number;
             listed = begun_is.listed;
             map = begun_is.map;
+            excepted = begun_is.excepted;
             widths = closed.0 begun_is.widths;
           },
         ) (whole_recorded from refl runs (its_group from refl runs) (λ awaits. awaits)) stands.groups.begun_is

@@ -46,7 +46,7 @@ module _ {script : Script} {actor : ℕ} {before after : TurnState} {clients new
       (rw does_is at (subst (HasDeviceUnder before.state.disk) under_is
       (takes.schedule.there actor before.client takes.was))) joins takes.schedule.going.are unmade
       (its_known from runs) in
-      let its = begun_now runs.recorded (search) (search arith) (λ id. cc) in
+      let its = begun_now runs.recorded (search) (search arith) (λ id. cc) made.2 in
       commit_begins takes runs old.pool.uber.reflow.to join.run
       (unmade.groups.whole (few_out old joins.begins.few)).0 alone.0 refl (cc) joins.disk client_is
-      (made.0, refl, begun_tells its) (λ asked. tt) (λ its_run its_is. rw (← same_attach its_is) made.6) (search same))
+      (made.0, refl, begun_tells its) (λ asked. tt) (λ its_run its_is. rw (← same_attach its_is) made.7) (search same))

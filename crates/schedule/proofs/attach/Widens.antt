@@ -105,6 +105,7 @@ module _ {script : Script} {actor : ℕ} {before after : TurnState} {clients new
     number = begun.number;
     listed = begun.listed;
     map = begun.map;
+    excepted = begun.excepted;
     widths = inr (inr (
       awaits_attach takes under_is asked.0 asked.1 is of_world runs,
       sym last.1 ∙ at_rest ∙ last.0,

@@ -1,5 +1,5 @@
 -- A commit begins after the last group listed, which is one alone.
-use Rattle.schedule.proofs.Words.{◌≡◌, ℕ, ◌+◌, List, length, arith, Disk, Item, SameMap, map_of, IsWidthStep, Kept}
+use Rattle.schedule.proofs.Words.{◌≡◌, ℕ, ◌+◌, List, [], length, arith, Disk, Item, SameMap, map_of, IsWidthStep, Kept}
 use Rattle.schedule.proofs.Words.{item_of, World, KeepsOrEnds, map_at_end, Recorded, IsBegunAt, Past}
 use Rattle.core_state.specs.declared.item.Group.{Group as GroupItem}
 use Rattle.schedule.proofs.turn.Recording.{after_few}
@@ -15,10 +15,12 @@ steps_from item last next after is ends = grind arith
 pub begun_now : {world : World} {past : Past} {items : List Item} {item : GroupItem} {last next : Kept}
     {begun : List Kept} {now : Disk} (so_far : Recorded world past items item last begun now)
     → next.uber.group ≡ last.uber.group + 1 → KeepsOrEnds last.uber.reflow next.uber.reflow
-    → SameMap next.map (map_of world.handed world.opening items) → IsBegunAt world items item (length items) ⊥ next
-begun_now so_far number widths same = record {
+    → SameMap next.map (map_of world.handed world.opening items) → next.excepted ≡ []
+    → IsBegunAt world items item (length items) ⊥ next
+begun_now so_far number widths same excepted = record {
   number = cc;
   listed = (after_few so_far, omega arith);
   map = search (map_at_end, arith);
+  excepted = excepted;
   widths = search steps_from;
 }

@@ -54,14 +54,14 @@ module _ {script : Script} {actor : ℕ} {before after : TurnState} {clients new
       let last : core.pool.uber.group ≡ runs.last.uber.group = ap (λ (u : Uber). u.group) runs.stands.alike in
       let rest = rests core takes.is begins.none in
       let begun : next_core.begun ≡ core.begun + 1 = ap (λ (c : Core). c.begun) begins.rest in
-      let its = begun_now runs.recorded (let group = made.2 in omega (arith, group, begun, rest, last))
-      (subst (λ (r : Reflow). KeepsOrEnds r made.0.uber.reflow) (ap (λ (u : Uber). u.reflow) runs.stands.alike) made.3)
-      (λ id. ap (λ (m : Map). m id) made.1) in
+      let its = begun_now runs.recorded (let group = made.3 in omega (arith, group, begun, rest, last))
+      (subst (λ (r : Reflow). KeepsOrEnds r made.0.uber.reflow) (ap (λ (u : Uber). u.reflow) runs.stands.alike) made.4)
+      (λ id. ap (λ (m : Map). m id) made.1) made.2 in
       commit_begins takes runs runs.reach run (unmade.groups.whole (few_out core begins.few)).0 alone.0
       (makes.commit run) (ap (λ (r : CommitRun). r.stage) begins.run_is) disk client_is
       (makes.begins world before.items runs.item (made.0 ∷ []) (length before.items) run (made.0, refl, its))
       (λ asked. makes.content world before.items asked (length before.items) (runs.contents actor) run)
-      (λ attach attaches. absurd (makes.no_attach run attach attaches)) (rw (same_calls, disk) made.5))
+      (λ attach attaches. absurd (makes.no_attach run attach attaches)) (rw (same_calls, disk) made.6))
     where
       under_is : after.client.under_way ≡ Some (record { at = length before.items; work = does run })
       under_is = ap (λ (c : Client). c.under_way) client_is
