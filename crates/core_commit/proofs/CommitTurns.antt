@@ -132,11 +132,12 @@ module _ (setting : Setting) (first next : Kept) where
         row = is.row;
         kept = next;
         listed = contains_tail first (next ∷ []) next (contains_head next []);
-        same = record { entries = refl; map = λ id. refl; alike = refl; excepted = refl };
+        same = record { entries = refl; others = refl; map = λ id. refl; alike = refl; excepted = refl };
         alike = is.alike;
         listing = record {
           index = is.sound.index;
           counted = is.sound.counted ∙ sym (ap (λ (u : Uber). u.count) is.alike);
+          none_else = is.sound.none_else;
         };
         widths = subst (λ (r : Reflow). (0 < r.from) × (r.from ≤ r.to)) (ap (λ (u : Uber). u.reflow) is.alike)
             (right_widths run.uber is.right);

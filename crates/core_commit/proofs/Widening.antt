@@ -167,6 +167,7 @@ module _ (setting : Setting) (first next : Kept) (run : CommitRun) (point : Poin
     index = sound.index;
     counted = sound.counted;
     digest = sound.digest;
+    none_else = sound.none_else;
     fitting = sound.fitting;
     indexes = sound.indexes;
   }
@@ -181,6 +182,7 @@ module _ (setting : Setting) (first next : Kept) (run : CommitRun) (point : Poin
     index = is.sound.index;
     counted = is.sound.counted;
     digest = is.sound.digest;
+    none_else = is.sound.none_else;
     fitting = record {
       births = is.sound.fitting.births;
       below = is.sound.fitting.below;
@@ -217,6 +219,7 @@ module _ (setting : Setting) (first next : Kept) (run : CommitRun) (point : Poin
     listing = record {
       index = is.sound.index;
       counted = is.sound.counted ∙ sym (ap (λ (u : Uber). u.count) is.alike);
+      none_else = is.sound.none_else;
     };
     indexes = is.sound.indexes;
     cells = λ device inside used. record {

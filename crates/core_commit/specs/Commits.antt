@@ -26,7 +26,13 @@ row_of begun = begun.later ++ begun.joined
 
 -- the group as it is written
 abbrev pub group_made : Begun → Uber → List IndexEntry → Kept
-group_made begun uber entries = record { uber = uber; entries = entries; map = begun.map; excepted = begun.kept.excepted }
+group_made begun uber entries = record {
+  uber = uber;
+  entries = entries;
+  others = begun.kept.others;
+  map = begun.map;
+  excepted = begun.kept.excepted;
+}
 
 -- The group goes to the other index area and another slot than the first one's, and its blocks are read as
 -- it asks for them on each device in use.

@@ -22,7 +22,13 @@ pub record Spread : Type 0 where
 
 -- the group as it is spread
 abbrev pub group_spread : Spread → Uber → List IndexEntry → Kept
-group_spread spread uber entries = record { uber = uber; entries = entries; map = spread.map; excepted = spread.kept.excepted }
+group_spread spread uber entries = record {
+  uber = uber;
+  entries = entries;
+  others = spread.kept.others;
+  map = spread.map;
+  excepted = spread.kept.excepted;
+}
 
 -- a device of the group that is in use
 abbrev pub IsInUse : Uber → Point → ℕ → Type 0

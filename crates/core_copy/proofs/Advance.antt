@@ -18,9 +18,9 @@ use Rattle.range_locks.specs.declared.hold.Hold.{Hold}
 use Rattle.shadow_write.specs.Required.{IsFrontIn, front_after_stop}
 use Rattle.block_record.specs.declared.entry.IndexEntry.{IndexEntry}
 use Rattle.uberblock_ring.specs.Devices.{has_device}
-use Rattle.core_state.specs.Index.{IsIndexOf, layout_of}
+use Rattle.core_state.specs.Index.{IsIndexOf, KeptBlock, layout_of}
 use Rattle.core_state.specs.Map.{Map}
-use Rattle.core_state.specs.Whole.{Excepted, Cell, IsCellOf, IsCell, RightAt, IsWhole}
+use Rattle.core_state.specs.Whole.{Excepted, Cell, IsCellOf, KeepsBlock, IsCell, RightAt, IsWhole}
 use Rattle.core_state.specs.Keeps.{Kept}
 use Rattle.core_state.specs.Certain.{CellsOn}
 use Rattle.mark_choice.specs.CommitChoice.{IsChoiceIn, IsCommitChoice, births_of_commit}
@@ -66,16 +66,15 @@ same_layout parity before chosen births group entry old = by (chosen.from == bef
         let m : Layout = record { start = l.start; sectors = l.sectors; parity = l.parity; width = w } in m)
         (older_keep births group entry.birth (omega (arith, old)))
 
-pub same_cells : (parity : ℕ) (before chosen : Reflow) (births : List Birth) (group : ℕ) (entries : List IndexEntry) (map : Map) (cell : Cell)
-    → ((entry : IndexEntry) → Contains entries entry → entry.birth ≤ group)
-    → IsCellOf parity (births_of_commit before chosen births group) entries map cell
-    → IsCellOf parity births entries map cell
-same_cells parity before chosen births group entries map cell old is = record {
+pub same_cells : (parity : ℕ) (before chosen : Reflow) (births : List Birth) (group : ℕ) (entries : List IndexEntry) (others : List KeptBlock) (map : Map) (cell : Cell)
+    → ((entry : IndexEntry) (content : List ℕ) → KeepsBlock entries others map entry content → entry.birth ≤ group)
+    → IsCellOf parity (births_of_commit before chosen births group) entries others map cell
+    → IsCellOf parity births entries others map cell
+same_cells parity before chosen births group entries others map cell old is = record {
   entry = is.entry;
-  listed = is.listed;
   content = is.content;
-  held = is.held;
-  cell_is = subst (λ (l : Layout). IsCell l is.content cell) (same_layout parity before chosen births group is.entry (old is.entry is.listed)) is.cell_is;
+  keeps = is.keeps;
+  cell_is = subst (λ (l : Layout). IsCell l is.content cell) (same_layout parity before chosen births group is.entry (old is.entry is.content is.keeps)) is.cell_is;
 }
 
 -- Law: The cells of a group with the chosen reflow are right on each device in use.
@@ -83,16 +82,16 @@ pub advance_cells : (reflow : Reflow) (done : ℕ) (holds : List Hold) (births :
     (device : ℕ)
     → IsWidening reflow → IsFrontOf reflow done → IsCommitChoice reflow done holds next.uber.reflow
     → next.uber.births ≡ births_of_commit reflow next.uber.reflow births next.uber.group
-    → ((entry : IndexEntry) → Contains next.entries entry → entry.birth ≤ next.uber.group)
-    → ((cell : Cell) → IsCellOf next.uber.parity births next.entries next.map cell
+    → ((entry : IndexEntry) (content : List ℕ) → KeepsBlock next.entries next.others next.map entry content → entry.birth ≤ next.uber.group)
+    → ((cell : Cell) → IsCellOf next.uber.parity births next.entries next.others next.map cell
     → IsClose reflow cell × RightAt known reflow done out excepted cell)
     → has_device out device ≡ false
     → CellsOn excepted known next device
 advance_cells reflow done holds births next known out excepted device widening front choice births_are old right in_use = record {
   at = λ x bytes asks not_excepted.
-      let cell_is : IsCellOf next.uber.parity births next.entries next.map asks.cell =
-      same_cells next.uber.parity reflow next.uber.reflow births next.uber.group next.entries next.map asks.cell old
-      (subst (λ (b : List Birth). IsCellOf next.uber.parity b next.entries next.map asks.cell) births_are asks.cell_is) in
+      let cell_is : IsCellOf next.uber.parity births next.entries next.others next.map asks.cell =
+      same_cells next.uber.parity reflow next.uber.reflow births next.uber.group next.entries next.others next.map asks.cell old
+      (subst (λ (b : List Birth). IsCellOf next.uber.parity b next.entries next.others next.map asks.cell) births_are asks.cell_is) in
       let is = right asks.cell cell_is in
       (advance_right reflow done holds next.uber.reflow known out excepted asks.cell widening front choice is.0.inside is.1).at device x
       asks.place in_use not_excepted
@@ -104,7 +103,7 @@ pub advance_whole : (devices : ℕ) (excepted : Excepted) (known : Known) (next 
     → IsIndexOf next.entries next.map
     → ((d x : ℕ) (bytes : List ℕ) → known d x ≡ Some bytes → image d x ≡ bytes)
     → ((device : ℕ) → device < devices → has_device next.uber.out device ≡ false → CellsOn excepted known next device)
-    → IsWhole devices excepted image next.uber next.entries next.map
+    → IsWhole devices excepted image next.uber next.entries next.others next.map
 advance_whole devices excepted known next image index fits cells = record {
   index = index;
   right = λ cell device of inside in_use. record {

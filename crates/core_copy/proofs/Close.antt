@@ -15,6 +15,7 @@ use Rattle.core_state.specs.Whole.{Cell, IsCell}
 use Rattle.core_state.specs.Keeps.{Kept, Setting}
 use Rattle.core_state.specs.Certain.{IsSound}
 use Rattle.core_state.proofs.Births.{births_between}
+use Rattle.core_state.proofs.Keeping.{fits_alone, kept_listed}
 use Rattle.shadow_write.specs.Band.{IsWidening}
 use Rattle.core_copy.specs.Around.{IsClose, IsCellIn}
 
@@ -41,10 +42,11 @@ pub sound_close : (setting : Setting) (kept : Kept) (cell : Cell) → IsSound se
     → IsClose kept.uber.reflow cell
 sound_close setting kept cell sound of =
     let layout : Layout = layout_of kept.uber.parity kept.uber.births of.entry in
-    let right : IsRightEntry of.entry = subst IsRightEntry of.listed.2 (sound.index.each of.listed.0 of.entry of.listed.1) in
+    let listed = (kept_listed kept of.entry of.content sound.none_else of.keeps).0 in
+    let right : IsRightEntry of.entry = subst IsRightEntry listed.2 (sound.index.each listed.0 of.entry listed.1) in
     let below : block_end kept.uber.parity kept.uber.births of.entry ≤ sectors_of kept.uber.reflow =
-    subst (λ (e : IndexEntry). block_end kept.uber.parity kept.uber.births e ≤ sectors_of kept.uber.reflow) of.listed.2
-    (sound.fitting.below of.listed.0 of.entry of.listed.1) in
+    subst (λ (e : IndexEntry). block_end kept.uber.parity kept.uber.births e ≤ sectors_of kept.uber.reflow) listed.2
+    ((fits_alone kept sound.none_else sound.fitting).below listed.0 of.entry listed.1) in
     let wide = subst (λ (u : Uber). HasWidthFor u of.entry.birth) sound.alike (right_wide sound.uber of.entry.birth sound.right) in
     let len = right.len in
     let is : IsLayout layout = record { content = omega (arith, len); parity = wide.0; width = omega (arith, wide.1) } in

@@ -14,7 +14,7 @@ pub record IsClose (reflow : Reflow) (cell : Cell) : Type 0 where
 
 -- a cell of a group's map
 abbrev pub IsCellIn : Kept → Cell → Type 0
-IsCellIn kept cell = IsCellOf kept.uber.parity kept.uber.births kept.entries kept.map cell
+IsCellIn kept cell = IsCellOf kept.uber.parity kept.uber.births kept.entries kept.others kept.map cell
 
 -- All that these groups ask for stays in the band of this reflow, with new places of sectors below
 -- `copied` alone.

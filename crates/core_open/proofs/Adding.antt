@@ -1,5 +1,5 @@
 -- A run may begin on a bank that has further devices, or more sectors, than the one that kept the groups.
-use Rattle.std.proofs.Common.{get_or, ◌≡◌, ◌≢◌, inl, inr, ⊎_elim, ℕ, ◌<◌, ◌≤◌, List, [], ◌∷◌, refl, sym, ap, subst, arith}
+use Rattle.std.proofs.Common.{get_or, ◌≡◌, ◌≢◌, inl, inr, ⊎_elim, ℕ, ◌<◌, ◌≤◌, List, ◌∷◌, refl, sym, ap, subst, arith}
 use Rattle.std.specs.Prelude.{Contains, min}
 use Rattle.std.proofs.lemmas.Bool.{cases_lt}
 use Rattle.std.proofs.lemmas.Bool.Decides.{nat_tests}
@@ -98,7 +98,7 @@ module _ (setting : Setting) (shape : Shape) (devices : setting.shape.devices �
           (λ (low : other < setting.shape.devices). is.whole.right cell other cell_is low used)
           (λ (high : setting.shape.devices ≤ other). record {
             at = λ device_sector place not_excepted. absurd (
-                let below = asks_device (record { uber = uber; entries = is.kept.entries; map = is.kept.map; excepted = [] }) other
+                let below = asks_device (record is.kept { uber = uber }) other
                 device_sector cell.bytes (right_widths uber shows.valid.right)
                 (record { cell = cell; cell_is = cell_is; place = place; bytes_are = refl }) in
                 let narrow = none_beyond uber is.kept is.listed is.alike in omega (arith, below, narrow, high));

@@ -20,9 +20,9 @@ use Rattle.core_state.specs.Map.{Map}
 use Rattle.core_state.specs.Shown.{Shape}
 use Rattle.core_state.specs.Index.{IsIndexOf, AreApart}
 use Rattle.core_state.specs.Whole.{Excepted}
-use Rattle.core_state.specs.Keeps.{Kept, Setting}
+use Rattle.core_state.specs.Keeps.{Kept, Setting, blocks_of}
 use Rattle.core_state.specs.Certain.{Asks, CellsOn, certain}
-use Rattle.core_state.proofs.Keeping.{asks_alike}
+use Rattle.core_state.proofs.Keeping.{asks_alike, blocks_alone}
 use Rattle.core_state.proofs.Listed.{contains_cases, contains_none}
 use Rattle.core_state.proofs.Places.{asks_device, right_widths}
 use Rattle.core_blocks.specs.Blocks.{Blocks, HasLayouts, IsListed, run_of}
@@ -130,15 +130,16 @@ module _ (setting : Setting) (first : Kept) (later : List Kept) (uber : Uber) (e
   index = subst IsIndex (sym loaded.entries_are) is.index
 
   -- Each block of the group has its sectors.
-  kept : NoneFree blocks uber.group next.entries
-  kept = record {
-    each = λ entry sector listed inside. inl (
-      run_of uber.parity uber.births entry,
-      loaded.space.taken entry (subst (λ (l : List IndexEntry). Contains l entry) (sym opened.entries_are) listed),
-      subst (λ (p : ℕ). let run : Run = run_of p uber.births entry in IsIn run.start run.len sector) loaded.parity
-          (subst (λ (b : List Birth). let run : Run = run_of blocks.parity b entry in IsIn run.start run.len sector) loaded.births inside),
-    );
-  }
+  kept : NoneFree blocks uber.group (blocks_of next)
+  kept = subst (λ (list : List IndexEntry). NoneFree blocks uber.group list)
+      (sym (blocks_alone next opened.knows.sound.none_else)) (record {
+        each = λ entry sector listed inside. inl (
+          run_of uber.parity uber.births entry,
+          loaded.space.taken entry (subst (λ (l : List IndexEntry). Contains l entry) (sym opened.entries_are) listed),
+          subst (λ (p : ℕ). let run : Run = run_of p uber.births entry in IsIn run.start run.len sector) loaded.parity
+              (subst (λ (b : List Birth). let run : Run = run_of blocks.parity b entry in IsIn run.start run.len sector) loaded.births inside),
+        );
+      })
 
   group : HoldsGroup setting next state
   group = record {
@@ -185,10 +186,12 @@ module _ (setting : Setting) (first : Kept) (later : List Kept) (uber : Uber) (e
             (asks_alike uber next cell device device_sector opened.alike
             (record {
               entry = entry;
-              listed = subst (λ (l : List IndexEntry). Contains l entry) listed_next
-                  (found_among blocks.table.entries entry.id entry listed);
               content = content;
-              held = has;
+              keeps = inl (
+                subst (λ (l : List IndexEntry). Contains l entry) listed_next
+                    (found_among blocks.table.entries entry.id entry listed),
+                has,
+              );
               cell_is = cell_is;
             }) (subst (λ (d : ℕ). IsRequiredPlace uber.reflow d cell.row_end cell.sector device device_sector) stopped place)) used;
       };

@@ -83,7 +83,7 @@ module _ (setting : Setting) (first : Kept) (later : List Kept) (disk : Disk)
       tells on device_sector (read.inside on in_use) (let room = read.room in omega (arith, low, room))
 
   slot_on : (on : ℕ) → IsInUse uber point on → has_device lack_uber on ≡ false
-      → SlotOn disk.reads (record { uber = uber; entries = entries; map = kept.map; excepted = kept.excepted }) on
+      → SlotOn disk.reads (record kept { uber = uber; entries = entries }) on
   slot_on on in_use has =
       let shown = read.shows on in_use has in
       let bytes = told_bytes (disk.reads on (slot_of uber.group))

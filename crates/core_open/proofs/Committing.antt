@@ -1,6 +1,5 @@
 -- A sync may commit the open group, and what that keeps.
 use Rattle.std.proofs.Common.{◌≡◌, ◌≢◌, inl, ℕ, ◌+◌, ◌<◌, ◌≤◌, List, ◌∷◌, false, Some, refl, sym, ◌∙◌, ap, arith, []}
-use Rattle.std.specs.Prelude.{Contains}
 use Rattle.std.proofs.lemmas.List.Elements.{All-cons}
 use Rattle.std.proofs.lemmas.List.Kept.{AllPairs-cons}
 use Rattle.reflow_mark.specs.declared.reflow.Reflow.{Reflow}
@@ -12,7 +11,7 @@ use Rattle.uberblock_ring.specs.Devices.{has_device}
 use Rattle.uberblock_ring.specs.Uberblock.{Uber}
 use Rattle.core_state.specs.Map.{Map}
 use Rattle.core_state.specs.Index.{IsIndexOf, layout_of}
-use Rattle.core_state.specs.Whole.{Cell, IsCellOf, RightAt}
+use Rattle.core_state.specs.Whole.{Cell, IsCellOf, KeepsBlock, RightAt}
 use Rattle.core_state.specs.Keeps.{HasWidthIn, Kept, Setting, IsNextOf}
 use Rattle.core_state.specs.Certain.{CellsOn, IsSound, IsSuccession}
 use Rattle.mark_choice.specs.CommitChoice.{KeepsOrEnds}
@@ -22,6 +21,7 @@ use Rattle.core_blocks.specs.Blocks.{AreInStep}
 use Rattle.core_blocks.proofs.Listed.{among_listed, found_among, found_id}
 use Rattle.core_commit.specs.Commits.{Begun, MayCommit}
 use Rattle.core_state.specs.Committing.{point_of}
+use Rattle.core_state.proofs.Keeping.{kept_listed}
 use Rattle.core_state.proofs.Widths.{first_width, only_width, width_like}
 use Rattle.core_open.specs.Pool.{IsPool, State, HasBank, IsTableOf, HoldsMap}
 use Rattle.core_open.specs.HoldsGroup.{HoldsGroup}
@@ -52,7 +52,7 @@ module _ (setting : Setting) (last : Kept) (map : Map) (before : State) (is : Is
   entries = before.pool.blocks.table.entries
 
   abbrev next : Kept
-  next = record { uber = uber; entries = entries; map = map; excepted = [] }
+  next = record { uber = uber; entries = entries; others = []; map = map; excepted = [] }
 
   abbrev begun : List Kept → Begun
   begun earlier = record {
@@ -125,33 +125,37 @@ module _ (setting : Setting) (last : Kept) (map : Map) (before : State) (is : Is
     index = is_ready.index;
     counted = refl;
     digest = refl;
+    none_else = refl;
     fitting = is_ready.fitting;
     indexes = table;
   }
 
   -- No block was born later than the group.
-  old : (entry : IndexEntry) → Contains entries entry → entry.birth ≤ before.pool.uber.group + 1
-  old entry listed = is.born entry (among_listed entries entry is_ready.index listed)
+  old : (entry : IndexEntry) (content : List ℕ) → KeepsBlock entries [] map entry content
+      → entry.birth ≤ before.pool.uber.group + 1
+  old entry content keeps = is.born entry
+      (among_listed entries entry is_ready.index (kept_listed next entry content refl keeps).0)
 
   -- A cell of the pool's births is one of its sectors, and is read wherever the pool asks for it.
-  read_cell : (cell : Cell) → IsCellOf before.pool.uber.parity before.pool.uber.births entries map cell
+  read_cell : (cell : Cell) → IsCellOf before.pool.uber.parity before.pool.uber.births entries [] map cell
       → (cell.sector < sectors_of before.pool.uber.reflow)
       × RightAt before.disk.reads before.pool.uber.reflow before.pool.done before.pool.out [] cell
   read_cell cell of =
-      let listed = among_listed entries of.entry is_ready.index of.listed in
+      let its = kept_listed next of.entry of.content refl of.keeps in
+      let listed = among_listed entries of.entry is_ready.index its.0 in
       let pool = listed_in_pool before.pool of.entry is step listed in
       let below = inside (layout_of before.pool.uber.parity before.pool.uber.births of.entry) of.cell_is.row of.cell_is.column
       pool.within.is of.cell_is.there in
       let end = pool.end in
       let sector = of.cell_is.sector in
-      (omega (arith, sector, below, end), (holds.right of.entry of.content listed of.held).each cell of.cell_is)
+      (omega (arith, sector, below, end), (holds.right of.entry of.content listed its.1).each cell of.cell_is)
 
   cells : (device : ℕ) → device < chosen.to → has_device before.pool.out device ≡ false
       → CellsOn [] before.disk.reads next device
   cells device within used = record {
     at = λ device_sector bytes asks excepted.
         let read = read_cell asks.cell (same_cells before.pool.uber.parity before.pool.uber.reflow chosen before.pool.uber.births
-        (before.pool.uber.group + 1) entries map asks.cell old asks.cell_is) in
+        (before.pool.uber.group + 1) entries [] map asks.cell old asks.cell_is) in
         read.1.at device device_sector (follows.stop asks.cell.row_end asks.cell.sector device device_sector read.0 asks.place)
         used (λ none. absurd (omega (arith, none.1)))
         ∙ ap (λ (b : List ℕ). Some b) asks.bytes_are;
@@ -162,7 +166,7 @@ module _ (setting : Setting) (last : Kept) (map : Map) (before : State) (is : Is
   may_commit earlier = record {
     knows = group.knows;
     row = row;
-    same = record { entries = refl; map = λ id. refl; alike = refl; excepted = refl };
+    same = record { entries = refl; others = refl; map = λ id. refl; alike = refl; excepted = refl };
     sound = sound;
     front = last ∷ [];
     last = refl;

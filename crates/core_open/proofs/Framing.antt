@@ -15,6 +15,7 @@ use Rattle.block_record.specs.declared.entry.IndexEntry.{IndexEntry}
 use Rattle.uberblock_ring.specs.Uberblock.{Uber, slot_of, area_sector}
 use Rattle.uberblock_ring.specs.Valid.{AreAlike}
 use Rattle.block_record.specs.Page.{page_sectors}
+use Rattle.core_state.specs.Index.{KeptBlock}
 use Rattle.core_state.specs.Map.{Map}
 use Rattle.core_state.specs.Shown.{Shape, Shows, Gives, IsCandidate, page_on, sectors_from}
 use Rattle.core_state.specs.Choosing.{Names}
@@ -113,9 +114,9 @@ length-column layout bytes row column = by (part_of layout row column)
     by Missing = length-zero_sector
 
 -- and so a cell has some.
-cell_some : (parity : ℕ) (births : List Birth) (entries : List IndexEntry) (map : Map) (cell : Cell)
-    → IsCellOf parity births entries map cell → cell.bytes ≡ [] → ⊥
-cell_some parity births entries map cell of none =
+cell_some : (parity : ℕ) (births : List Birth) (entries : List IndexEntry) (others : List KeptBlock) (map : Map)
+    (cell : Cell) → IsCellOf parity births entries others map cell → cell.bytes ≡ [] → ⊥
+cell_some parity births entries others map cell of none =
     let wide = length-column _ of.content of.cell_is.row of.cell_is.column in
     let empty : 512 ≡ 0 = sym wide ∙ ap length (sym of.cell_is.bytes ∙ none) in
     omega (arith, empty)
@@ -129,12 +130,12 @@ module _ (setting : Setting) (first : Kept) (later : List Kept) (one other : Ima
 
   -- What an image of the bank has of a cell is on the bank.
   right_on : (parity : ℕ) (births : List Birth) (kept : Kept) (cell : Cell) (device device_sector : ℕ)
-      → IsCellOf parity births kept.entries kept.map cell → device < setting.shape.devices
+      → IsCellOf parity births kept.entries kept.others kept.map cell → device < setting.shape.devices
       → known_of one device device_sector ≡ Some cell.bytes
       → known_of other device device_sector ≡ Some cell.bytes
   right_on parity births kept cell device device_sector of inside has = ⊎_elim
       (λ below. ap (λ (b : List ℕ). Some b) (sym (same.at device device_sector inside below)) ∙ has)
-      (λ above. absurd (cell_some parity births kept.entries kept.map cell of
+      (λ above. absurd (cell_some parity births kept.entries kept.others kept.map cell of
       (given (sym has) ∙ only.outside device device_sector (inr above))))
       (cases_lt device_sector setting.shape.sectors)
     where

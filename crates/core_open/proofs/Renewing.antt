@@ -20,7 +20,7 @@ use Rattle.core_state.specs.Committing.{Point}
 use Rattle.core_state.specs.Moment.{IsRowOf}
 use Rattle.core_state.proofs.Calls.{true_false}
 use Rattle.core_state.proofs.Fresh.{none_in}
-use Rattle.core_state.proofs.Keeping.{fitting_alike}
+use Rattle.core_state.proofs.Keeping.{alone_fits, fits_alone, fitting_alike}
 use Rattle.core_state.proofs.Listed.{contains_head, contains_tail, contains_cases, contains_none}
 use Rattle.core_state.proofs.Moving.{cells_same, knows_move, knows_widen}
 use Rattle.core_state.proofs.Reader.{same_group}
@@ -122,7 +122,13 @@ find_number (first ∷ groups) number = ⊎_elim
 cells_renewed : (kept next : Kept) (known : Known) (device : ℕ) → Renews kept next
     → CellsOn kept.excepted known kept device → CellsOn next.excepted known next device
 cells_renewed kept next known device renews cells = cells_same next renumbered known device
-    (record { entries = renews.entries; map = renews.map; alike = renews.alike; excepted = renews.excepted })
+    (record {
+      entries = renews.entries;
+      others = renews.others;
+      map = renews.map;
+      alike = renews.alike;
+      excepted = renews.excepted;
+    })
     (λ device_sector bytes asks. record {
       at = λ x wanted asked none. cells.at x wanted
           (record { cell = asked.cell; cell_is = asked.cell_is; place = asked.place; bytes_are = asked.bytes_are }) none;
@@ -132,6 +138,7 @@ cells_renewed kept next known device renews cells = cells_same next renumbered k
     renumbered = record {
       uber = record kept.uber { group = kept.uber.group + 2 };
       entries = kept.entries;
+      others = kept.others;
       map = kept.map;
       excepted = kept.excepted;
     }
@@ -141,7 +148,7 @@ pub record IsSpread (setting : Setting) (first : Kept) (later : List Kept) (kept
     (entries : List IndexEntry) (point : Point) : Type 0 where
   pub listed : Contains (first ∷ later) kept
   pub near : (kept ≡ first) ⊎ IsNextOf first kept
-  pub same : SameGroup kept (record { uber = uber; entries = entries; map = kept.map; excepted = kept.excepted })
+  pub same : SameGroup kept (record kept { uber = uber; entries = entries })
   pub sound : IsSound setting kept
   pub right : IsRightUber uber
   pub parity_is : kept.uber.parity ≡ first.uber.parity
@@ -162,7 +169,7 @@ module _ (setting : Setting) (first : Kept) (later : List Kept) (kept : Kept) (u
   renewed = record uber { group = uber.group + 2; out = point.out }
 
   abbrev pub fresh : Kept
-  fresh = record { uber = renewed; entries = entries; map = kept.map; excepted = kept.excepted }
+  fresh = record kept { uber = renewed; entries = entries }
 
   knows : Knows setting first later point.disk
   knows = is.stays.knows
@@ -194,6 +201,7 @@ module _ (setting : Setting) (first : Kept) (later : List Kept) (kept : Kept) (u
   pub fresh_renews : Renews kept fresh
   fresh_renews = record {
     entries = sym is.same.entries;
+    others = refl;
     map = λ id. refl;
     alike = sym (ap (λ (u : Uber). record u { group = u.group + 2 }) is.same.alike);
     excepted = refl;
@@ -417,6 +425,7 @@ module _ (setting : Setting) (first : Kept) (later : List Kept) (kept : Kept) (u
       entries = joins.renews.entries ∙ is.same.entries;
       map = joins.renews.map;
       alike = joins.renews.alike ∙ ap (λ (u : Uber). record u { group = u.group + 2 }) is.same.alike;
+      others = joins.renews.others;
       excepted = joins.renews.excepted;
     }
 
@@ -451,6 +460,7 @@ module _ (setting : Setting) (first : Kept) (later : List Kept) (kept : Kept) (u
             index = subst IsIndex (sym joins.renews.entries) is.sound.index;
             counted = ap length joins.renews.entries ∙ is.sound.counted
                 ∙ ap (λ (u : Uber). u.count) is.same.alike;
+            none_else = joins.renews.others ∙ is.sound.none_else;
           };
           indexes = next_indexes;
           cells = λ device inside used. cells_renewed kept next (certain point.disk) device joins.renews
@@ -466,7 +476,13 @@ module _ (setting : Setting) (first : Kept) (later : List Kept) (kept : Kept) (u
     may_renew all each = record {
       knows = knows_rest;
       listed = next_listed;
-      same = record { entries = next_same.entries; map = next_same.map; alike = next_same.alike; excepted = refl };
+      same = record {
+        entries = next_same.entries;
+        others = refl;
+        map = next_same.map;
+        alike = next_same.alike;
+        excepted = refl;
+      };
       pool_is = sym (ap (λ (u : Uber). u.pool) is.same.alike) ∙ is.sound.pool_is;
       known = next_certain;
       told = is.stays.told;
@@ -481,11 +497,12 @@ module _ (setting : Setting) (first : Kept) (later : List Kept) (kept : Kept) (u
     next_to = ap (λ (u : Uber). u.reflow.to) joins.renews.alike
 
     sound_fitting : IsFitting (record kept.uber { group = kept.uber.group + 2 }) kept.entries
-    sound_fitting = record {
-      births = λ k default low. let birth = is.sound.fitting.births k default low in omega (arith, birth);
-      below = is.sound.fitting.below;
-      apart = is.sound.fitting.apart;
-    }
+    sound_fitting =
+        let fitting = fits_alone kept is.sound.none_else is.sound.fitting in record {
+          births = λ k default low. let birth = fitting.births k default low in omega (arith, birth);
+          below = fitting.below;
+          apart = fitting.apart;
+        }
 
     pub next_sound : IsSound setting next
     next_sound = record {
@@ -500,9 +517,11 @@ module _ (setting : Setting) (first : Kept) (later : List Kept) (kept : Kept) (u
           ∙ sym (ap (λ (u : Uber). u.count) joins.renews.alike);
       digest = ap (λ (es : List IndexEntry). sha256 (index_page es)) joins.renews.entries ∙ is.sound.digest
           ∙ sym (ap (λ (u : Uber). u.digest) joins.renews.alike);
-      fitting = subst (λ (es : List IndexEntry). IsFitting next.uber es) (sym joins.renews.entries)
+      none_else = joins.renews.others ∙ is.sound.none_else;
+      fitting = alone_fits next (joins.renews.others ∙ is.sound.none_else)
+          (subst (λ (es : List IndexEntry). IsFitting next.uber es) (sym joins.renews.entries)
           (fitting_alike next.uber (record kept.uber { group = kept.uber.group + 2 }) kept.entries joins.renews.alike
-          sound_fitting);
+          sound_fitting));
       indexes = next_indexes;
     }
 

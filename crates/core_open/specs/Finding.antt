@@ -21,7 +21,7 @@ found_of shape image found map = record {
   shape = shape;
   silent = found.silent;
   image = image;
-  chosen = record { uber = found.uber; entries = found.entries.items; map = map; excepted = [] };
+  chosen = record { uber = found.uber; entries = found.entries.items; others = []; map = map; excepted = [] };
 }
 
 -- The device shows a candidate of the uberblock's pool and group.

@@ -2,7 +2,7 @@
 use Rattle.std.specs.Prelude.{◌≡◌, []}
 use Rattle.bank_trait.specs.Regions.{Tells}
 use Rattle.uberblock_ring.specs.Valid.{AreAlike}
-use Rattle.core_state.specs.Keeps.{Kept, Setting}
+use Rattle.core_state.specs.Keeps.{Kept, Setting, blocks_of}
 use Rattle.core_state.specs.Certain.{Knows}
 use Rattle.core_blocks.specs.Kept.{NoneFree}
 use Rattle.core_open.specs.Holds.{shape_of}
@@ -13,7 +13,7 @@ use Rattle.core_open.specs.Pool.{State}
 pub record HoldsGroup (setting : Setting) (last : Kept) (state : State) : Type 0 where
   pub knows : Knows setting last [] state.disk
   pub alike : AreAlike state.pool.uber last.uber
-  pub kept : NoneFree state.pool.blocks state.pool.uber.group last.entries
+  pub kept : NoneFree state.pool.blocks state.pool.uber.group (blocks_of last)
   pub excepted : last.excepted ≡ []
   pub shape : setting.shape ≡ shape_of state.disk
   pub tells : Tells state.disk

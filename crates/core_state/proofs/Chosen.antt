@@ -17,7 +17,7 @@ use Rattle.core_state.specs.Keeps.{Kept, Setting, Keeps, IsKept, IsNextOf, SameG
 use Rattle.core_state.specs.Collision.{HasNoOtherPage, MightStand}
 use Rattle.core_state.specs.Certain.{IsSound, IsAble, IsCertain, Knows}
 use Rattle.core_state.proofs.Fresh.{none_in}
-use Rattle.core_state.proofs.Keeping.{knows_keep, fitting_alike}
+use Rattle.core_state.proofs.Keeping.{knows_keep, alone_fits, fitting_alike}
 use Rattle.core_state.proofs.Knowing.{present}
 use Rattle.core_state.proofs.Reader.{candidate_kept, same_group, shown_alike}
 use Rattle.core_state.proofs.Listed.{contains_head, contains_cases}
@@ -156,8 +156,20 @@ module _ (setting : Setting) (first : Kept) (later : List Kept) (disk : Disk)
   pub chosen_group : uber.group ≡ kept.uber.group
   chosen_group = ap (λ (u : Uber). u.group) alike
 
-  pub chosen_same : SameGroup kept (record { uber = uber; entries = entries; map = kept.map; excepted = kept.excepted })
-  chosen_same = record { entries = sym chosen_held.1; map = λ id. refl; alike = sym alike; excepted = refl }
+  pub chosen_same : SameGroup kept (record {
+    uber = uber;
+    entries = entries;
+    others = kept.others;
+    map = kept.map;
+    excepted = kept.excepted;
+  })
+  chosen_same = record {
+    entries = sym chosen_held.1;
+    others = refl;
+    map = λ id. refl;
+    alike = sym alike;
+    excepted = refl;
+  }
 
   pub chosen_able : IsAble setting.shape disk device uber
   chosen_able = record {
@@ -183,8 +195,10 @@ module _ (setting : Setting) (first : Kept) (later : List Kept) (disk : Disk)
     digest = ap (λ (es : List IndexEntry). sha256 (index_page es)) (sym chosen_held.1)
         ∙ ap sha256 (sym chosen.candidate.gives.page.page) ∙ chosen.candidate.gives.digest
         ∙ ap (λ (u : Uber). u.digest) alike;
-    fitting = subst (λ (es : List IndexEntry). IsFitting kept.uber es) chosen_held.1
-        (fitting_alike kept.uber uber entries (sym alike) chosen.candidate.fitting);
+    none_else = chosen_held.0.listing.none_else;
+    fitting = alone_fits kept chosen_held.0.listing.none_else
+        (subst (λ (es : List IndexEntry). IsFitting kept.uber es) chosen_held.1
+        (fitting_alike kept.uber uber entries (sym alike) chosen.candidate.fitting));
     indexes = chosen_held.0.whole.index;
   }
 

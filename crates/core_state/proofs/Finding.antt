@@ -23,7 +23,7 @@ use Rattle.core_state.proofs.Fresh.{lacks_one, count_grows}
 use Rattle.core_state.proofs.Reader.{same_group, shown_alike}
 use Rattle.core_state.proofs.Listed.{contains_head}
 use Rattle.core_state.proofs.Places.{asks_sector, right_widths, IsDataSector}
-use Rattle.core_state.proofs.Keeping.{fitting_alike}
+use Rattle.core_state.proofs.Keeping.{alone_fits, fitting_alike}
 use Rattle.core_state.proofs.Knowing.{present, shows_same, encoded_some}
 use Rattle.core_state.proofs.Showing.{completed, completed_might, shown_votes}
 use Rattle.core_state.proofs.Widths.{first_width}
@@ -188,15 +188,15 @@ some_same : (one other : List ℕ) → ◌≡◌ {A = Option (List ℕ)} (Some o
 some_same one other same = cc
 
 moved_cell : (kept other : Kept) → kept ≡ other → (cell : Cell) {parity : ℕ} {births : List Birth}
-    → IsCellOf parity births kept.entries kept.map cell
-    → IsCellOf parity births other.entries other.map cell
+    → IsCellOf parity births kept.entries kept.others kept.map cell
+    → IsCellOf parity births other.entries other.others other.map cell
 moved_cell kept other same cell {parity = parity} {births = births} of =
-    subst (λ (k : Kept). IsCellOf parity births k.entries k.map cell) same of
+    subst (λ (k : Kept). IsCellOf parity births k.entries k.others k.map cell) same of
 
 -- What a group asks for, told by the fields of one of its uberblocks.
 asks_of : (kept : Kept) (uber : Uber) (e x : ℕ) (bytes : List ℕ) → AreAlike uber kept.uber
     → Asks kept e x bytes
-    → (cell : Cell) × IsCellOf uber.parity uber.births kept.entries kept.map cell
+    → (cell : Cell) × IsCellOf uber.parity uber.births kept.entries kept.others kept.map cell
     × IsRequiredPlace uber.reflow (front_after_stop uber.reflow) cell.row_end cell.sector e x
     × (cell.bytes ≡ bytes)
 asks_of kept uber e x bytes alike asks =
@@ -204,8 +204,8 @@ asks_of kept uber e x bytes alike asks =
     let births : kept.uber.births ≡ uber.births = sym (ap (λ (u : Uber). u.births) alike) in
     let reflow : kept.uber.reflow ≡ uber.reflow = sym (ap (λ (u : Uber). u.reflow) alike) in (
       asks.cell,
-      subst (λ (n : ℕ). IsCellOf n uber.births kept.entries kept.map asks.cell) parity
-          (subst (λ (bs : List Birth). IsCellOf kept.uber.parity bs kept.entries kept.map asks.cell)
+      subst (λ (n : ℕ). IsCellOf n uber.births kept.entries kept.others kept.map asks.cell) parity
+          (subst (λ (bs : List Birth). IsCellOf kept.uber.parity bs kept.entries kept.others kept.map asks.cell)
           births asks.cell_is),
       subst (λ (r : Reflow). IsRequiredPlace r (front_after_stop r) asks.cell.row_end
           asks.cell.sector e x) reflow asks.place,
@@ -427,6 +427,7 @@ module _ (setting : Setting) (first : Kept) (later : List Kept) (disk : Disk)
       held.listed (contains_head first later)
       (sym (ap (λ (u : Uber). u.group) held.alike) ∙ shown.1) in
       let page = candidate.gives.page in
+      let none : first.others ≡ [] = subst (λ (k : Kept). k.others ≡ []) same held.listing.none_else in
       record {
         uber = shown.0;
         alike = alike;
@@ -436,7 +437,9 @@ module _ (setting : Setting) (first : Kept) (later : List Kept) (disk : Disk)
         index = page.index;
         counted = page.counted ∙ ap (λ (u : Uber). u.count) alike;
         digest = ap sha256 (sym page.page) ∙ candidate.gives.digest ∙ ap (λ (u : Uber). u.digest) alike;
-        fitting = fitting_alike first.uber shown.0 first.entries (sym alike) candidate.fitting;
+        none_else = none;
+        fitting = alone_fits first none
+            (fitting_alike first.uber shown.0 first.entries (sym alike) candidate.fitting);
         indexes = subst (λ (k : Kept). IsIndexOf k.entries k.map) same held.whole.index;
       }
 

@@ -16,7 +16,8 @@ use Rattle.uberblock_ring.proofs.OneSpelling.{encoded_tells}
 use Rattle.core_state.specs.Map.{no_blocks}
 use Rattle.core_state.specs.Index.{IsFitting}
 use Rattle.core_state.specs.Shown.{Shape, Shows, Gives, page_on}
-use Rattle.core_state.specs.Whole.{IsWhole}
+use Rattle.block_record.specs.declared.entry.IndexEntry.{IndexEntry}
+use Rattle.core_state.specs.Whole.{IsWhole, KeepsBlock}
 use Rattle.core_state.specs.Keeps.{Setting, Keeps, IsKept, ShowsOnly, StandsThere, ShowsCandidate, IsNotOutvoted}
 use Rattle.core_state.specs.Keeps.{HasDevices, Kept, MayVoteFor}
 use Rattle.core_state.specs.Create.{IsNew, new_ring, rows_for, first_kept}
@@ -176,12 +177,16 @@ module _ (setting : Setting) (parity width : ℕ) (image : Image) (sized : IsSiz
     fitting = fits_0;
   }
 
-  whole_0 : IsWhole setting.shape.devices [] image uber_0 [] no_blocks
+  whole_0 : IsWhole setting.shape.devices [] image uber_0 [] [] no_blocks
   whole_0 = record {
     index = record { listed = λ entry listed. absurd (omega (arith, listed.1)); every = λ id bytes held. absurd (none_some bytes held) };
-    right = λ cell device of. absurd (omega (arith, of.listed.1));
+    right = λ cell device of. absurd (no_block of.keeps);
   }
     where
+      no_block : {entry : IndexEntry} → {content : List ℕ} → KeepsBlock [] [] no_blocks entry content → ⊥
+      no_block (inl of) = omega (arith, of.0.1)
+      no_block (inr of) = omega (arith, of.1)
+
       none_some : (bytes : List ℕ) → None ≡ Some bytes → ⊥
       none_some bytes same = cc
 
@@ -196,6 +201,7 @@ module _ (setting : Setting) (parity width : ℕ) (image : Image) (sized : IsSiz
         ascending = λ one two default less low. absurd (omega (arith, less, low));
       };
       counted = refl;
+      none_else = refl;
     };
     whole = whole_0;
     out = λ device is. absurd (none_is_in device is);

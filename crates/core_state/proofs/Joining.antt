@@ -38,6 +38,7 @@ module _ (setting : Setting) (base reach : ℕ) (first : Kept) (later : List Kep
       index = knows.sound.index;
       counted = knows.sound.counted;
       digest = knows.sound.digest;
+      none_else = knows.sound.none_else;
       fitting = knows.sound.fitting;
       indexes = knows.sound.indexes;
     };

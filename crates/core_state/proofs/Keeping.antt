@@ -1,7 +1,8 @@
 -- From what is certain on the devices to what each image keeps.
 use Rattle.std.proofs.Common.{◌≡◌, ℕ, suc, ◌+◌, ◌<◌, ◌≤◌, List, [], ◌∷◌, ◌++◌, length, Some, false, refl, sym, ◌∙◌, ap}
-use Rattle.std.proofs.Common.{subst, arith}
-use Rattle.std.specs.Prelude.{slice_get}
+use Rattle.std.proofs.Common.{subst, arith, inl, inr, ⊎_elim}
+use Rattle.std.proofs.lemmas.List.Elements.{Contains-append_left, Contains-append_right}
+use Rattle.std.specs.Prelude.{Contains, map, slice_get}
 use Rattle.sha2.specs.Sha256.{sha256}
 use Rattle.bank_trait.specs.Disk.{Image, Disk, Fits}
 use Rattle.width_map.specs.declared.birth.Birth.{Birth}
@@ -12,15 +13,16 @@ use Rattle.block_record.specs.Page.{page_sectors, index_page}
 use Rattle.uberblock_ring.specs.Devices.{has_device}
 use Rattle.uberblock_ring.specs.Uberblock.{Uber, encoded, slot_of, area_sector}
 use Rattle.uberblock_ring.specs.Valid.{AreAlike}
-use Rattle.core_state.specs.Index.{IsFitting}
+use Rattle.core_state.specs.Index.{IsFitting, KeptBlock}
 use Rattle.core_state.specs.Shown.{read_devices, Shows, Gives, page_on, sectors_from}
-use Rattle.core_state.specs.Whole.{Cell, IsCellOf}
-use Rattle.core_state.specs.Keeps.{Kept, Setting, Keeps, IsKept, ShowsGroup}
+use Rattle.core_state.specs.Whole.{Cell, IsCellOf, KeepsBlock}
+use Rattle.core_state.specs.Keeps.{Kept, blocks_of, Setting, Keeps, IsKept, ShowsGroup}
 use Rattle.core_state.specs.Collision.{MightStand, BankKeeps}
 use Rattle.core_state.specs.Certain.{Asks, joined, PageOn, IsSound, IsCertain, Knows, certain}
 use Rattle.core_state.proofs.Fresh.{none_in}
 use Rattle.core_state.proofs.Knowing.{might_show}
 use Rattle.core_state.proofs.Widths.{below_first, first_within}
+use Rattle.core_state.proofs.Listed.{contains_cases, contains_head, contains_none, contains_tail}
 
 -- The sectors of a page, end to end.
 sectors_are : (image : Image) (device first : ℕ) (parts : List (List ℕ))
@@ -69,10 +71,49 @@ fitting_alike uber other entries alike fits =
     subst (λ (u : Uber). IsFitting u entries) (sym alike) bare in
     record { births = moved.births; below = moved.below; apart = moved.apart }
 
+-- A group without other blocks keeps those of its entries.
+pub blocks_alone : (kept : Kept) → kept.others ≡ [] → blocks_of kept ≡ kept.entries
+blocks_alone kept none = ap (λ (others : List KeptBlock). map (λ block. block.entry) others ++ kept.entries) none
+
+-- Each block that it keeps is an entry's.
+pub kept_listed : (kept : Kept) (entry : IndexEntry) (content : List ℕ) → kept.others ≡ []
+    → KeepsBlock kept.entries kept.others kept.map entry content
+    → Contains kept.entries entry × (kept.map entry.id ≡ Some content)
+kept_listed kept entry content none (inl of) = of
+kept_listed kept entry content none (inr of) = absurd (contains_none _
+    (subst (λ (others : List KeptBlock). Contains others (record { entry = entry; content = content })) none of))
+
+-- What a block is kept as, it is among the group's blocks.
+among_others : (others : List KeptBlock) (block : KeptBlock) → Contains others block
+    → Contains (map (λ block. block.entry) others) block.entry
+among_others [] block has = absurd (contains_none block has)
+among_others (one ∷ others) block has = ⊎_elim
+    (λ same. subst (λ (b : KeptBlock). Contains (map (λ block. block.entry) (one ∷ others)) b.entry) (sym same)
+    (contains_head one.entry (map (λ block. block.entry) others)))
+    (λ later. contains_tail one.entry (map (λ block. block.entry) others) block.entry (among_others others block later))
+    (contains_cases one others block has)
+
+pub among_blocks : (kept : Kept) (entry : IndexEntry) (content : List ℕ)
+    → KeepsBlock kept.entries kept.others kept.map entry content → Contains (blocks_of kept) entry
+among_blocks kept entry content (inl of) =
+    Contains-append_right (map (λ block. block.entry) kept.others) kept.entries entry of.0
+among_blocks kept entry content (inr of) =
+    Contains-append_left (map (λ block. block.entry) kept.others) kept.entries entry
+    (among_others kept.others (record { entry = entry; content = content }) of)
+
+pub fits_alone : (kept : Kept) → kept.others ≡ [] → IsFitting kept.uber (blocks_of kept)
+    → IsFitting kept.uber kept.entries
+fits_alone kept none fits = subst (λ (blocks : List IndexEntry). IsFitting kept.uber blocks) (blocks_alone kept none) fits
+
+pub alone_fits : (kept : Kept) → kept.others ≡ [] → IsFitting kept.uber kept.entries
+    → IsFitting kept.uber (blocks_of kept)
+alone_fits kept none fits =
+    subst (λ (blocks : List IndexEntry). IsFitting kept.uber blocks) (sym (blocks_alone kept none)) fits
+
 -- What an uberblock's own fields ask for, its group asks for.
 pub asks_alike : (uber : Uber) (kept : Kept) (cell : Cell) (device device_sector : ℕ)
     → AreAlike uber kept.uber
-    → IsCellOf uber.parity uber.births kept.entries kept.map cell
+    → IsCellOf uber.parity uber.births kept.entries kept.others kept.map cell
     → IsRequiredPlace uber.reflow (front_after_stop uber.reflow) cell.row_end cell.sector device
     device_sector
     → Asks kept device device_sector cell.bytes
@@ -82,8 +123,8 @@ asks_alike uber kept cell device device_sector alike of place =
     let reflow : uber.reflow ≡ kept.uber.reflow = ap (λ (u : Uber). u.reflow) alike in
     record {
       cell = cell;
-      cell_is = subst (λ (n : ℕ). IsCellOf n kept.uber.births kept.entries kept.map cell) parity
-          (subst (λ (bs : List Birth). IsCellOf uber.parity bs kept.entries kept.map cell) births of);
+      cell_is = subst (λ (n : ℕ). IsCellOf n kept.uber.births kept.entries kept.others kept.map cell) parity
+          (subst (λ (bs : List Birth). IsCellOf uber.parity bs kept.entries kept.others kept.map cell) births of);
       place = subst
           (λ (r : Reflow). IsRequiredPlace r (front_after_stop r) cell.row_end cell.sector device
           device_sector) reflow place;
@@ -158,7 +199,8 @@ module _ (setting : Setting) (first : Kept) (later : List Kept) (disk : Disk)
           giver_reads = none_in device;
           gives = page_given setting disk image first slot.uber device might.fits sound slot.alike
               inside (knows.pages device below works);
-          fitting = fitting_alike slot.uber first.uber first.entries slot.alike sound.fitting;
+          fitting = fitting_alike slot.uber first.uber first.entries slot.alike
+              (fits_alone first sound.none_else sound.fitting);
         },
       )
 

@@ -12,8 +12,8 @@ use Rattle.uberblock_ring.specs.Uberblock.{Uber}
 use Rattle.uberblock_ring.specs.Valid.{AreAlike}
 use Rattle.commit_job.specs.declared.call.CommitCall.{CommitCall}
 use Rattle.commit_job.specs.declared.call.CommitCall.TheVariants.{IndexWrite, BaseSync, UberWrite, UberSync}
-use Rattle.core_state.specs.Index.{IsIndexOf, IsListing}
-use Rattle.core_state.specs.Whole.{Excepted, Cell, IsCellOf}
+use Rattle.core_state.specs.Index.{IsIndexOf, IsListing, KeptBlock}
+use Rattle.core_state.specs.Whole.{Excepted, Cell, IsCellOf, KeepsBlock}
 use Rattle.core_state.specs.Keeps.{Kept, Setting, SameGroup}
 use Rattle.core_state.specs.Certain.{Asks, CellsOn, IsSound, IsCertain, IsSuccession, Knows, certain}
 use Rattle.core_state.specs.Committing.{Among, Point, HasBase, IsSealed, Unsigned, Signed}
@@ -84,15 +84,24 @@ knows_move setting first later next more disk row sound above sealed from_later 
       votes = knows.votes;
     }
 
+keeps_same : (one other : Kept) (entry : IndexEntry) (content : List ℕ) → SameGroup one other
+    → KeepsBlock one.entries one.others one.map entry content
+    → KeepsBlock other.entries other.others other.map entry content
+keeps_same one other entry content same (inl of) = inl (
+  subst (λ (es : List IndexEntry). Contains es entry) same.entries of.0,
+  sym (same.map entry.id) ∙ of.1,
+)
+keeps_same one other entry content same (inr of) =
+    inr (subst (λ (bs : List KeptBlock). Contains bs (record { entry = entry; content = content })) same.others of)
+
 cell_same : (parity : ℕ) (births : List Birth) (one other : Kept) (cell : Cell)
     → SameGroup one other
-    → IsCellOf parity births one.entries one.map cell
-    → IsCellOf parity births other.entries other.map cell
+    → IsCellOf parity births one.entries one.others one.map cell
+    → IsCellOf parity births other.entries other.others other.map cell
 cell_same parity births one other cell same of = record {
   entry = of.entry;
-  listed = subst (λ (es : List IndexEntry). Contains es of.entry) same.entries of.listed;
   content = of.content;
-  held = sym (same.map of.entry.id) ∙ of.held;
+  keeps = keeps_same one other of.entry of.content same of.keeps;
   cell_is = of.cell_is;
 }
 
@@ -108,8 +117,8 @@ asks_same one other device device_sector bytes same asks =
     record {
       cell = asks.cell;
       cell_is = cell_same other.uber.parity other.uber.births one other asks.cell same
-          (subst (λ (n : ℕ). IsCellOf n other.uber.births one.entries one.map asks.cell) parity
-          (subst (λ (bs : List Birth). IsCellOf one.uber.parity bs one.entries one.map asks.cell)
+          (subst (λ (n : ℕ). IsCellOf n other.uber.births one.entries one.others one.map asks.cell) parity
+          (subst (λ (bs : List Birth). IsCellOf one.uber.parity bs one.entries one.others one.map asks.cell)
           births asks.cell_is));
       place = subst
           (λ (r : Reflow). IsRequiredPlace r (front_after_stop r) asks.cell.row_end asks.cell.sector
@@ -140,7 +149,7 @@ pub record MaySign (setting : Setting) (first : Kept) (more : List Kept) (next :
   pub listed : Contains (first ∷ more) kept
   pub same : SameGroup kept next
   pub alike : AreAlike uber kept.uber
-  pub listing : IsListing kept.entries uber.count
+  pub listing : IsListing kept.entries kept.others uber.count
   pub widths : (0 < next.uber.reflow.from) × (next.uber.reflow.from ≤ next.uber.reflow.to)
   pub indexes : IsIndexOf next.entries next.map
   pub lists : (device : ℕ) → has_device uber.out device ≡ has_device out device

@@ -11,7 +11,7 @@ use Rattle.uberblock_ring.specs.Valid.{IsRightUber, AreAlike}
 use Rattle.core_state.specs.Index.{IsFitting, IsIndexOf, IsListing}
 use Rattle.core_state.specs.Shown.{Shape, read_devices}
 use Rattle.core_state.specs.Whole.{Excepted, Cell, IsCellOf}
-use Rattle.core_state.specs.Keeps.{Kept, Setting, IsNextOf, IsNotOutvoted, HasWidthIn, HasDevices}
+use Rattle.core_state.specs.Keeps.{Kept, blocks_of, Setting, IsNextOf, IsNotOutvoted, HasWidthIn, HasDevices}
 use Rattle.core_state.specs.Collision.{MightShow}
 
 -- what a crash now leaves for certain, and what each sector could hold after one
@@ -24,7 +24,7 @@ able disk = disk.could disk.clock
 -- A group asks for these bytes in this sector of this device.
 pub record Asks (kept : Kept) (device device_sector : ℕ) (bytes : List ℕ) : Type 0 where
   pub cell : Cell
-  pub cell_is : IsCellOf kept.uber.parity kept.uber.births kept.entries kept.map cell
+  pub cell_is : IsCellOf kept.uber.parity kept.uber.births kept.entries kept.others kept.map cell
   pub place : IsRequiredPlace kept.uber.reflow (front_after_stop kept.uber.reflow) cell.row_end
       cell.sector device device_sector
   pub bytes_are : cell.bytes ≡ bytes
@@ -65,7 +65,8 @@ pub record IsSound (setting : Setting) (kept : Kept) : Type 0 where
   pub index : IsIndex kept.entries
   pub counted : length kept.entries ≡ kept.uber.count
   pub digest : sha256 (index_page kept.entries) ≡ kept.uber.digest
-  pub fitting : IsFitting kept.uber kept.entries
+  pub none_else : kept.others ≡ []
+  pub fitting : IsFitting kept.uber (blocks_of kept)
   pub indexes : IsIndexOf kept.entries kept.map
 
 -- A slot that is read may come to show this uberblock.
@@ -82,7 +83,7 @@ pub record IsCertain (setting : Setting) (disk : Disk) (groups : List Kept) (ube
     pub kept : Kept
     pub listed : Contains groups kept
     pub alike : AreAlike uber kept.uber
-    pub listing : IsListing kept.entries uber.count
+    pub listing : IsListing kept.entries kept.others uber.count
     pub indexes : IsIndexOf kept.entries kept.map
     pub cells : (device : ℕ) → device < setting.shape.devices → has_device uber.out device ≡ false
         → CellsOn kept.excepted (certain disk) kept device

@@ -1,24 +1,30 @@
 -- An image keeps these groups and no others of the pool.
 use Rattle.std.specs.Prelude.{◌≡◌, ◌≢◌, ◌⊎◌, ℕ, zero, suc, ◌+◌, ◌<◌, ◌≤◌, List, [], ◌∷◌, All, AllPairs, true, false}
-use Rattle.std.specs.Prelude.{Contains, nat_eq, if◌then◌else◌}
+use Rattle.std.specs.Prelude.{◌++◌, Contains, map, nat_eq, if◌then◌else◌}
 use Rattle.std.specs.List.{IsDistinct}
 use Rattle.bank_trait.specs.Disk.{Image}
 use Rattle.block_record.specs.declared.entry.IndexEntry.{IndexEntry}
 use Rattle.uberblock_ring.specs.Devices.{has_device, count_below, IsWithin}
 use Rattle.uberblock_ring.specs.Uberblock.{Uber}
 use Rattle.uberblock_ring.specs.Valid.{AreAlike}
-use Rattle.core_state.specs.Index.{IsListing}
+use Rattle.core_state.specs.Index.{IsListing, KeptBlock}
 use Rattle.core_state.specs.Map.{Map, SameMap}
 use Rattle.core_state.specs.Shown.{Shape, read_devices, Shows, Gives, IsCandidate}
 use Rattle.core_state.specs.Choosing.{Names, Outvotes}
 use Rattle.core_state.specs.Whole.{Excepted, IsWhole}
 
--- a group: its uberblock but for the out set, its index, its map, and what may be wrong of its blocks
+-- a group: its uberblock but for the out set, its index, the blocks that it keeps beside those of its ids, its map, and
+-- what may be wrong of all these blocks
 pub record Kept : Type 0 where
   pub uber : Uber
   pub entries : List IndexEntry
+  pub others : List KeptBlock
   pub map : Map
   pub excepted : Excepted
+
+-- the blocks that a group keeps, the others first: where there are none these are the entries
+abbrev pub blocks_of : Kept → List IndexEntry
+blocks_of kept = map (λ block. block.entry) kept.others ++ kept.entries
 
 -- the bank, the pool, how many devices it has at least and at most, and the devices that have failed
 pub record Setting : Type 0 where
@@ -48,8 +54,8 @@ pub record IsKept (setting : Setting) (image : Image) (groups : List Kept) (uber
     pub kept : Kept
     pub listed : Contains groups kept
     pub alike : AreAlike uber kept.uber
-    pub listing : IsListing kept.entries uber.count
-    pub whole : IsWhole setting.shape.devices kept.excepted image uber kept.entries kept.map
+    pub listing : IsListing kept.entries kept.others uber.count
+    pub whole : IsWhole setting.shape.devices kept.excepted image uber kept.entries kept.others kept.map
     pub out : IsWithin uber.out setting.failed
 
 -- Each valid uberblock of the pool from the first group on, on any device, is of these groups,
@@ -85,6 +91,7 @@ pub record StandsThere (setting : Setting) (first : Kept) (image : Image) : Type
 -- The groups have the same index, map and uberblock but for its out set.
 pub record SameGroup (one other : Kept) : Type 0 where
   pub entries : one.entries ≡ other.entries
+  pub others : one.others ≡ other.others
   pub map : SameMap one.map other.map
   pub alike : AreAlike one.uber other.uber
   pub excepted : one.excepted ≡ other.excepted
@@ -93,6 +100,7 @@ pub record SameGroup (one other : Kept) : Type 0 where
 -- Its out set is made up at its first uberblock write.
 pub record Renews (chosen next : Kept) : Type 0 where
   pub entries : next.entries ≡ chosen.entries
+  pub others : next.others ≡ chosen.others
   pub map : SameMap next.map chosen.map
   pub alike : AreAlike next.uber (record chosen.uber { group = chosen.uber.group + 2 })
   pub excepted : next.excepted ≡ chosen.excepted

@@ -57,6 +57,7 @@ pub use Rattle.attach_ring.specs.Ring.{HasReadRing, RingRead}
 pub use Rattle.reconstruct.specs.Columns.{column_bytes}
 pub use Rattle.reconstruct.specs.Lost.{AreBytes, IsLeftOver}
 pub use Rattle.reconstruct.specs.Rows.{Rows, column_at}
+pub use Rattle.core_state.proofs.Keeping.{among_blocks}
 pub use Rattle.core_state.proofs.Frames.{Nowhere, none_lost, unchanged_frames}
 pub use Rattle.core_state.proofs.Knowing.{knows_frame}
 pub use Rattle.core_state.proofs.Listed.{contains_cases, contains_head, contains_none, contains_tail}
@@ -68,7 +69,7 @@ pub use Rattle.core_state.specs.Committing.{Point, point_of}
 pub use Rattle.core_state.specs.Free.{IsSpare}
 pub use Rattle.core_state.specs.Index.{layout_of}
 pub use Rattle.core_state.specs.JobTurns.{MayRun}
-pub use Rattle.core_state.specs.Keeps.{Kept, Setting}
+pub use Rattle.core_state.specs.Keeps.{Kept, Setting, blocks_of}
 pub use Rattle.core_state.specs.Map.{Map, with_block}
 pub use Rattle.core_state.specs.Moment.{IsRowOf, KeepsSince}
 pub use Rattle.core_state.specs.Whole.{Cell, IsCell, RightAt}

@@ -10,7 +10,7 @@ use Rattle.uberblock_ring.specs.Devices.{count_of}
 use Rattle.uberblock_ring.specs.Valid.{AreAlike}
 use Rattle.core_state.specs.Map.{Map}
 use Rattle.core_state.specs.Index.{layout_of}
-use Rattle.core_state.specs.Keeps.{Kept, Setting}
+use Rattle.core_state.specs.Keeps.{Kept, Setting, blocks_of}
 use Rattle.core_state.specs.Certain.{Knows}
 use Rattle.core_blocks.specs.declared.range.PutRange.{PutRange}
 use Rattle.core_blocks.specs.Blocks.{AreUnderWay, layout_run, put_run}
@@ -108,12 +108,12 @@ pub record AreCallsOf (core : Core) (calls : List HoldingCall) : Type 0 where
 -- No put has a sector of these blocks.
 abbrev pub PutsSpare : CoreState → List HoldingCall → Kept → Type 0
 PutsSpare state calls kept = (run : PutRun) → Contains calls (Putting run)
-    → SparesAll state.core.pool.blocks.parity state.core.pool.blocks.births kept.entries (put_run run.range)
+    → SparesAll state.core.pool.blocks.parity state.core.pool.blocks.births (blocks_of kept) (put_run run.range)
 
 -- The group's blocks were born by then, and lie in the pool as it is.
 pub record LiesInPool (core : Core) (kept : Kept) : Type 0 where
-  pub born : (entry : IndexEntry) → Contains kept.entries entry → entry.birth ≤ core.begun
-  pub inside : (entry : IndexEntry) → Contains kept.entries entry
+  pub born : (entry : IndexEntry) → Contains (blocks_of kept) entry → entry.birth ≤ core.begun
+  pub inside : (entry : IndexEntry) → Contains (blocks_of kept) entry
       → IsInPool (layout_of core.pool.uber.parity core.pool.uber.births entry) core.pool.uber.reflow
 
 -- The group after the last answered one is under way: it has come so far, no sector of its blocks is free or a put's,
@@ -125,7 +125,7 @@ pub record CommitStands (setting : Setting) (last : Kept) (begun : List Kept) (c
   pub of : IsCommitOf state.core run
   pub come : IsCommitting setting last next run (point_of state.core.pool.out state.disk)
   pub lies : LiesInPool state.core next
-  pub kept : NoneFree state.core.pool.blocks state.core.begun next.entries
+  pub kept : NoneFree state.core.pool.blocks state.core.begun (blocks_of next)
   pub excepted : next.excepted ≡ []
   pub spared : PutsSpare state calls next
 
@@ -156,7 +156,7 @@ pub record Stands (setting : Setting) (last : Kept) (begun : List Kept) (map : M
     (calls : List HoldingCall) (commit : Option CommitRun) (state : CoreState) : Type 0 where
   pub groups : GroupsStand setting last begun calls commit state
   pub alike : AreAlike state.core.pool.uber last.uber
-  pub kept : NoneFree state.core.pool.blocks state.core.pool.uber.group last.entries
+  pub kept : NoneFree state.core.pool.blocks state.core.pool.uber.group (blocks_of last)
   pub spared : PutsSpare state calls last
   pub excepted : last.excepted ≡ []
   pub shape : setting.shape ≡ shape_of state.disk

@@ -1,4 +1,5 @@
 -- What stands between two turns, and which calls are under way, over frees.
+use Rattle.core_turns.proofs.Words.{blocks_of}
 use Rattle.core_turns.proofs.Words.{◌≡◌, inr, ℕ, ◌+◌, ◌<◌, List, Option, arith, Disk, IndexEntry, Answer, Map, Kept}
 use Rattle.core_turns.proofs.Words.{Setting, PutRange, AreUnderWay, NoneFree, CommitRun, map_after_free, HoldsMap}
 use Rattle.core_turns.proofs.Words.{freed_holds, none_freed_holds, Core, IsCore, at_disk, pool_at, FreesBlock}
@@ -63,5 +64,5 @@ pub frees_stands : {setting : Setting} {last : Kept} {begun : List Kept} {map : 
 frees_stands {map = map} {old = old} {new} {disk} id given is frees kept stands =
     let left = freed old new id given frees in
     stands_on (calls_none (freed_rearranges left)) (search (keeps_same, arith))
-    (λ past group at none spares. (kept past group.entries (past_below old past is at) none, spares))
+    (λ past group at none spares. (kept past (blocks_of group) (past_below old past is at) none, spares))
     (left.holds map disk stands.holds) (λ call listed. inr (stands.each call listed)) stands

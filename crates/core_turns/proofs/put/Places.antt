@@ -1,4 +1,5 @@
 -- Where a put writes: to no place that another block requires, nor one that a commit's groups ask for.
+use Rattle.core_turns.proofs.Words.{blocks_of, among_blocks}
 use Rattle.core_turns.proofs.Words.{ℕ, ◌*◌, ◌/◌, ◌<◌, List, arith, Contains, mul-le-mul_left, cases_lt, Reflow}
 use Rattle.core_turns.proofs.Words.{sectors_of, Layout, sector_of, end_of, IsRequiredPlace, front_after_stop, writes_of}
 use Rattle.core_turns.proofs.Words.{Write, are_required, column_bytes, IndexEntry, layout_of, Kept, Setting, Asks, Cell}
@@ -35,26 +36,27 @@ pub record AreInPool (kept : Kept) (reflow : Reflow) (done : ℕ) : Type 0 where
   pub asked : (row_end sector device device_sector : ℕ) → sector < sectors_of reflow
       → IsRequiredPlace kept.uber.reflow (front_after_stop kept.uber.reflow) row_end sector device device_sector
       → IsRequiredPlace reflow done row_end sector device device_sector
-  pub each : (entry : IndexEntry) → Contains kept.entries entry
+  pub each : (entry : IndexEntry) → Contains (blocks_of kept) entry
       → IsInPool (layout_of kept.uber.parity kept.uber.births entry) reflow
 
 -- No block of a group asks for a place that the writes of another block go to.
 pub never_asked : (kept : Kept) (reflow : Reflow) (done : ℕ) (layout : Layout) (out device device_sector : ℕ)
     (bytes : List ℕ) → IsFrontOf reflow done → AreInPool kept reflow done → IsInPool layout reflow
-    → SparesAll kept.uber.parity kept.uber.births kept.entries (layout_run layout)
+    → SparesAll kept.uber.parity kept.uber.births (blocks_of kept) (layout_run layout)
     → IsWrittenTo layout reflow done out device device_sector → Asks kept device device_sector bytes → ⊥
 never_asked kept reflow done layout out device device_sector bytes front inside pool spares written asks =
     let of = asks.cell_is in
-    let lies = inside.each of.entry of.listed in
+    let listed = among_blocks kept of.entry of.content of.keeps in
+    let lies = inside.each of.entry listed in
     let below : asks.cell.sector < sectors_of reflow = rw of.cell_is.sector (search in_pool) in
     let place = inside.asked asks.cell.row_end asks.cell.sector device device_sector below asks.place in
-    search (never_both, spares, arith)
+    search (never_both, spares of.entry listed, arith)
 
 -- A put's writes go on beside a commit, of whose group and the one before none has a sector of the put.
 pub put_beside_commit : (setting : Setting) (first next : Kept) (reflow : Reflow) (done : ℕ) (layout : Layout) (out : ℕ)
     → IsFrontOf reflow done → AreInPool first reflow done → AreInPool next reflow done → IsInPool layout reflow
-    → SparesAll first.uber.parity first.uber.births first.entries (layout_run layout)
-    → SparesAll next.uber.parity next.uber.births next.entries (layout_run layout)
+    → SparesAll first.uber.parity first.uber.births (blocks_of first) (layout_run layout)
+    → SparesAll next.uber.parity next.uber.births (blocks_of next) (layout_run layout)
     → IsBeside setting first next (IsWrittenTo layout reflow done out)
 put_beside_commit setting first next reflow done layout out front inside_first inside_next pool spares_first spares_next
     = record {

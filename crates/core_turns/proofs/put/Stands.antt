@@ -1,4 +1,5 @@
 -- What stands between two turns stands over each turn that calls no device, as those of a put but for its writes.
+use Rattle.core_turns.proofs.Words.{blocks_of}
 use Rattle.core_turns.proofs.Words.{◌≡◌, ◌≢◌, ◌⊎◌, inl, inr, ⊎_elim, ℕ, ◌+◌, ◌<◌, List, Option, Some, None, refl, sym}
 use Rattle.core_turns.proofs.Words.{◌∙◌, ap, length, arith, Contains, touches_none, Hold, Shared, EndsHold, Gains}
 use Rattle.core_turns.proofs.Words.{IndexEntry, AreBytes, Map, with_block, layout_of, Kept, Setting, PutRange, IsListed}
@@ -49,9 +50,9 @@ calls_none change = record { rest = cc; parity = change.parity; births = change.
 pub stands_on : {setting : Setting} {last : Kept} {begun : List Kept} {map other : Map} {contents nows : ℕ → List ℕ}
     {calls nexts : List HoldingCall} {commit : Option CommitRun} {old new : Core} {disk : Disk} → CallsNone old new
     → KeepsAlone old.pool.done old.holds new.holds
-    → ((past : ℕ) (group : Kept) → IsKeptPast old past → NoneFree old.pool.blocks past group.entries
+    → ((past : ℕ) (group : Kept) → IsKeptPast old past → NoneFree old.pool.blocks past (blocks_of group)
     → PutsSpare (at_disk old disk) calls group
-    → NoneFree new.pool.blocks past group.entries × PutsSpare (at_disk old disk) nexts group)
+    → NoneFree new.pool.blocks past (blocks_of group) × PutsSpare (at_disk old disk) nexts group)
     → HoldsMap other (pool_at (at_disk new disk))
     → ((call : HoldingCall) → Contains nexts call → HoldsCall (at_disk new disk) (nows (actor_of call)) call
     ⊎ HoldsCall (at_disk old disk) (nows (actor_of call)) call)
@@ -148,9 +149,9 @@ module _ {setting : Setting} {last : Kept} {begun : List Kept} {map : Map} {cont
       stands_on (calls_none change) (keeps_gained old.pool.done old.holds new.holds run.hold (cc)
       (rw begins.hold_is begins.begins.first.clear) begins.holds)
       (λ past group is none spares. (
-        begins.kept past group.entries none,
+        begins.kept past (blocks_of group) none,
         λ one listed. ⊎_elim (λ (same : Putting run ≡ Putting one). rw (← same_put same)
-            (begins.spares past group.entries none))
+            (begins.spares past (blocks_of group) none))
             (λ there. spares one there) (gains_cases left calls (Putting run) (Putting one) gains listed),
       )) (search map_on)
       (each_gained gains (inr (rw (ap nows (ap (λ (h : Hold). h.actor) begins.hold_is) ∙ sets.own) (record {

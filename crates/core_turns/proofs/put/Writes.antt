@@ -1,4 +1,5 @@
 -- What stands between two turns stands over each write of a put, and so does what images keep.
+use Rattle.core_turns.proofs.Words.{blocks_of}
 use Rattle.core_turns.proofs.Words.{◌≡◌, ⊎_elim, ℕ, ◌≤◌, List, [], ◌∷◌, Option, Some, sym, subst, arith, Contains}
 use Rattle.core_turns.proofs.Words.{cases_lt, Lawful, TouchesOnly, Reflow, Layout, stop_asks_no_more, writes_of}
 use Rattle.core_turns.proofs.Words.{are_required, Gains, IndexEntry, count_of, Uber, Map, layout_of, Kept, Setting}
@@ -25,7 +26,7 @@ use Rattle.core_turns.proofs.state.Writes.{AreSpare, since_written, writes_stand
 -- A put has no sector in common with a block of this group, whose blocks lie in the pool.
 record IsClearOf (layout : Layout) (reflow : Reflow) (done : ℕ) (kept : Kept) : Type 0 where
   inside : AreInPool kept reflow done
-  spares : SparesAll kept.uber.parity kept.uber.births kept.entries (layout_run layout)
+  spares : SparesAll kept.uber.parity kept.uber.births (blocks_of kept) (layout_run layout)
 
 module _ {left calls : List HoldingCall} {before after : CoreState} {run next : PutRun} (is : IsCore before.core)
     (lawful : Lawful before.disk) (writes : WritesOne before run after next)
@@ -109,7 +110,7 @@ module _ {left calls : List HoldingCall} {before after : CoreState} {run next : 
 
     -- The put has no sector of a block of a group that it spares.
     spares_now : (group : Kept) → PutsSpare before calls group
-        → SparesAll before.core.pool.uber.parity before.core.pool.uber.births group.entries (put_run run.range)
+        → SparesAll before.core.pool.uber.parity before.core.pool.uber.births (blocks_of group) (put_run run.range)
     spares_now group spared = rw (is.is.parity, is.is.births) at (spared run its_calls)
 
     -- So it is clear of the last one,
@@ -119,7 +120,7 @@ module _ {left calls : List HoldingCall} {before after : CoreState} {run next : 
         asked = λ row_end sector device device_sector inside place. search (stop_asks_no_more, arith);
         each = search (entry_in_pool, arith);
       };
-      spares = subst (λ (u : Uber). SparesAll u.parity u.births last.entries (put_run run.range)) stands.alike
+      spares = subst (λ (u : Uber). SparesAll u.parity u.births (blocks_of last) (put_run run.range)) stands.alike
           (spares_now last stands.spared);
     }
 
@@ -137,7 +138,7 @@ module _ {left calls : List HoldingCall} {before after : CoreState} {run next : 
           (sym (same entry listed)) (search spares_now);
     }
       where
-        same : (entry : IndexEntry) → Contains groups.next.entries entry
+        same : (entry : IndexEntry) → Contains (blocks_of groups.next) entry
             → layout_of groups.next.uber.parity groups.next.uber.births entry
             ≡ layout_of before.core.pool.uber.parity before.core.pool.uber.births entry
         same entry listed = search (layout_same, arith)

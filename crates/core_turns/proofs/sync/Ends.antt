@@ -1,5 +1,6 @@
 -- The end of a commit beside the calls that are under way: its group is the last answered one, and each call goes on at
 -- the places at which it began.
+use Rattle.core_turns.proofs.Words.{blocks_of}
 use Rattle.core_turns.proofs.Words.{Contains, ◌≡◌, ℕ, ◌+◌, ◌≤◌, List, [], ◌∷◌, None, Option, Some, ap, IsRightBlock}
 use Rattle.core_turns.proofs.Words.{refl, arith, Disk, Hold, Shared, Reflow, Layout, IndexEntry, IsWithin, Map}
 use Rattle.core_turns.proofs.Words.{layout_of, Kept, Setting, Knows, Point, point_of, range_of_commit, chooses}
@@ -120,7 +121,7 @@ module _ (core : Core) (run : CommitRun) (is : IsCore core) (of : IsCommitOf cor
     -- ---- all that stands
 
     -- The group's blocks were born by now.
-    born_by_now : (kept : Kept) → LiesInPool core kept → (entry : IndexEntry) → Contains kept.entries entry
+    born_by_now : (kept : Kept) → LiesInPool core kept → (entry : IndexEntry) → Contains (blocks_of kept) entry
         → entry.birth ≤ run.uber.group + 1
     born_by_now kept lies entry listed = search arith
 
@@ -128,14 +129,14 @@ module _ (core : Core) (run : CommitRun) (is : IsCore core) (of : IsCommitOf cor
     pub ended_stands : (setting : Setting) (last next : Kept) (map : Map) (contents : ℕ → List ℕ)
         (calls : List HoldingCall) (disk : Disk) → Knows setting next [] disk
         → record run.uber { out = 0 } ≡ record next.uber { out = 0 } → LiesInPool core next
-        → NoneFree core.pool.blocks core.begun next.entries → next.excepted ≡ []
+        → NoneFree core.pool.blocks core.begun (blocks_of next) → next.excepted ≡ []
         → PutsSpare (at_disk core disk) calls next
         → AreCallsOf core calls → {commit : Option CommitRun}
         → Stands setting last (next ∷ []) map contents calls commit (at_disk core disk)
         → Stands setting next [] map contents calls None (at_disk answered disk)
     ended_stands setting last next map contents calls disk knows alike lies kept excepted spared are stands =
         let rows = core_rows core chosen is of.next.choice in
-        let none_free : NoneFree answered.pool.blocks answered.pool.uber.group next.entries =
+        let none_free : NoneFree answered.pool.blocks answered.pool.uber.group (blocks_of next) =
         search (answered_kept, pool, on, born_by_now, arith) in
         search (answered_spares, answered_map, pool, on, born_by_now, rows, call_holds, are.each, stands.each)
 

@@ -51,6 +51,7 @@ commit_begins_stands {setting} {last} {begun} {map} {contents} {calls} {old} {ne
     next = record {
       uber = uber_for old.pool chosen;
       entries = old.pool.blocks.table.entries;
+      others = [];
       map = map;
       excepted = [];
     }
