@@ -453,7 +453,7 @@ kept_page='4 group 5 after 4
 for when in 1 32 33 64; do fails pread64:error=EIO:when=$when "$attached" "$expanding"; done
 for when in 65 80 96 97; do fails pread64:error=EIO:when=$when "$not_read" "$new_failed"; done
 # Reads of several sectors that fail are nobody's fault: the ring at the start, and in the opening.
-for when in 2 4; do
+for when in 1 2; do
   calls 'puthex 1 61' sync attach 'puthex 2 62' sync 'get 2' attach >script
   old_and_one
   INPUT=script disturbed disk3 pread64:error=EIO:when=$when "${IMAGES[@]}" -- replay

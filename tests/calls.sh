@@ -25,8 +25,8 @@ traced() {
 each() { for number in 0 1 2; do echo "$1 disk$number${2:+ $2 1}"; done; }
 begin() {
   for number in 0 1 2; do printf '%s disk'$number'\n' open lock measure; done
-  for _ in 1 2; do # what each image shows, and the opening: the ring's first sector, and what lies behind it
-    for number in 0 1 2; do printf 'read disk'$number' %s\n' '0 1' '1 64'; done
+  for _ in 1 2; do # what each image shows, and the opening: the ring, and what lies behind it
+    for number in 0 1 2; do echo "read disk$number 0 64"; done
   done
 }
 # group SLOT [SECTOR COUNT]: a commit, with its index sectors: page, sync, uberblock, sync. A sync hands over what was
@@ -54,8 +54,9 @@ same 'the calls of a first run' found wanted
 traced 'get 7' >found
 {
   begin
-  group 6 # the page of the chosen group lies right behind the rings
-  printf '%s\n' 'read disk0 192 1' 'read disk1 192 1' # the parity too
+  for number in 0 1 2; do echo "read disk$number 64 64"; done # the page of the chosen group, and what lies behind it
+  group 6
+  printf '%s\n' 'read disk0 192 64' 'read disk1 192 64' # the parity too, and what lies behind both
   echo "answer $(wc -c <text) $(wc -c <text)"
   each read 6
   each close
@@ -73,9 +74,8 @@ grep -c 'sync' <found >counts
 for word in write read; do grep -c "^$word" found >>counts; done
 grep -vcE '^((write|read) disk. [0-9]+ [0-9]+|(open|lock|measure|fdatasync|close) disk.|answer .*)$' found >>counts || true
 # Syncs: 6 of the opening, 6 of the sync. Writes: 3 uberblocks, 400 sectors of columns an image in rows of 64, 3 pages of
-# 13 sectors, 3 uberblocks. Reads: each ring twice, its first sector and a row; on each image the first sector of the
-# columns and 7 rows behind it; 3 uberblocks at the end.
-printf '%s\n' 12 $((3 + 3 * 7 + 3 + 3)) $((3 * 2 * 2 + 3 * (1 + 7) + 3)) 0 >wanted
+# 13 sectors, 3 uberblocks. Reads: each ring twice; on each image 7 rows of columns; 3 uberblocks at the end.
+printf '%s\n' 12 $((3 + 3 * 7 + 3 + 3)) $((3 * 2 + 3 * 7 + 3)) 0 >wanted
 same 'the number of calls' counts wanted
 grep '^answer' found |
   awk 'last != "" && last < 4096 || $2 != $3 { exit } { last = $2; sum += $3 } END { print sum }' >sum

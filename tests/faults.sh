@@ -64,9 +64,9 @@ borne pwrite64 0 4
 borne pread64 0 64
 
 # A read of several sectors that fails, moves a part or nothing, or is interrupted, is nobody's fault: the sectors that are
-# asked for are read alone, and nothing is told. The second and the fourth call on each image are such ones, of the ring.
+# asked for are read alone, and nothing is told. The first and the second call on each image are such ones, of the ring.
 for number in 0 1 2; do
-  for when in 2 4; do
+  for when in 1 2; do
     for how in error=EIO error=ENOSPC error=EINTR retval=0 retval=100 retval=1024; do
       back made
       disturbed "disk$number" "pread64:$how:when=$when" "${IMAGES[@]}" -- run

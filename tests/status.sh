@@ -148,13 +148,10 @@ if command -v strace >/dev/null && strace -o /dev/null true 2>/dev/null; then
     awk '$1 == "read" && $3 % 512 + $4 % 512 == 0 { $3 /= 512; $4 /= 512 } { print }' >found
   {
     for number in 0 1 2; do printf "%s disk$number\n" kind open measure; done
-    # To see what each image shows, to choose, by the status itself, and whether they have changed: the ring's first
-    # sector, and what lies behind it. To choose takes this from what was just seen; the looks behind it read it again.
-    for look in seen chosen told again; do
-      for number in 0 1 2; do
-        echo "read disk$number 0 1"
-        [ $look = chosen ] || echo "read disk$number 1 64"
-      done
+    # To see what each image shows, by the status itself, and whether they have changed: the ring, and what lies behind
+    # it. To choose takes what was just seen; the looks behind it read it again.
+    for _ in seen told again; do
+      for number in 0 1 2; do echo "read disk$number 0 64"; done
     done
     for number in 0 1 2; do echo "close disk$number"; done
   } >wanted

@@ -9,9 +9,9 @@ use crate::slot::SECTOR_BYTES;
 use bank_trait::Failed;
 use std::alloc::{AllocError, Global};
 
-/// A read of the sector behind the one that was read last reads up to 64 sectors in one call, and those behind it are
-/// served from them. Where that call fails, nobody is told: the sector that was asked for is read alone, and so are
-/// those behind it for as long.
+/// A read of the sector behind the one that was read last, or of one at a multiple of 64, where rings and index pages
+/// begin, reads up to 64 sectors in one call, and those behind it are served from them. Where that call fails, nobody
+/// is told: the sector that was asked for is read alone, and so are those behind it for as long.
 #[derive(Drop)]
 pub struct ReadAhead<F: RowFile> {
     file: F,
@@ -53,13 +53,18 @@ impl<F: RowFile> ReadAhead<F> {
         self.next = None;
     }
 
-    /// Reads several sectors where this one is behind the one that was read last, and is not there yet.
+    /// Whether the sectors behind this one are likely to be asked for next.
+    fn is_of_row(&self, sector: u64) -> bool {
+        self.next == Some(sector) || sector % MOST_IN_ROW as u64 == 0
+    }
+
+    /// Reads several sectors where those behind this one are likely to be asked for, and it is not there yet.
     fn look_ahead(&mut self, sector: u64)
         ensures same { F.contents self.new.file ≡ F.contents self.old.file }
         ensures faults { F.faults self.new.file ≡ F.faults self.old.file }
         ensures begun { F.begun_with self.new.file ≡ F.begun_with self.old.file }
     {
-        if self.next != Some(sector) || self.piece.has(sector) {
+        if !self.is_of_row(sector) || self.piece.has(sector) {
             return;
         }
         if self.alone > 0 {

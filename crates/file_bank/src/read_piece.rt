@@ -1,6 +1,6 @@
 // Sectors side by side that were read in one call.
-ghost use Rattle.std.specs.Prelude.{◌≡◌, ◌+◌, ◌-◌, ◌*◌, ◌/◌, ◌%◌, ◌^◌, ◌<◌, ◌≤◌, ℕ, length, max, IsTrue, IfOk, OnOk, OnErr};
-ghost use Rattle.std.specs.Prelude.{◌↔◌, List, Some};
+ghost use Rattle.std.specs.Prelude.{◌≡◌, ◌+◌, ◌-◌, ◌*◌, ◌/◌, ◌%◌, ◌^◌, ◌<◌, ◌≤◌, ℕ, length, max, IsTrue, IfOk, OnOk};
+ghost use Rattle.std.specs.Prelude.{◌↔◌, List, Some, OnErr};
 ghost use Rattle.file_bank.specs.Row.{GivesRow};
 
 use crate::row_file::{MOST_IN_ROW, RowFile};

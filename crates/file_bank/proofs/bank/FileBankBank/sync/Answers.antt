@@ -10,8 +10,8 @@ returns-clause-synced g c =
     let next : c.in-Some.moment ≡ c.begin_round.new.self.clock + 1 = search rules in
     let there : c.args.device < length c.begin_round.new.self.files.items =
     omega (arith, c.requires, c.begin_round.ensures.unchanged.goes_on.later.devices) in
-    synced_after (disk_of g.F.BlockFile.contents c.args.self.now) (disk_of g.F.BlockFile.contents c.begin_round.new.self)
-    _ c.begin_round.ensures.unchanged c.begin_round.ensures.counts _ _
+    synced_after (disk_of g.F.BlockFile.contents c.args.self.now)
+    (disk_of g.F.BlockFile.contents c.begin_round.new.self) _ c.begin_round.ensures.unchanged c.begin_round.ensures.counts _ _
     (synced_one g.F.BlockFile.contents g.met.F.BlockFile.lawful c.begin_round.new.self.files.items _ _ _ _ _ _ _
     _ there c.index_mut.ensures.value next c.begin_round.new.self.paced _
     c.sync_file-outcome.ensures.settled c.note-2.ensures.counts)

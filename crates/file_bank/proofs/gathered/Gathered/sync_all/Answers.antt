@@ -33,7 +33,8 @@ returns-in-Some-Whole-clause-settled g c =
     (g.met.F.RowFile.lawful c.hand_over.new.self.file) c.requires.later
     (omega (arith, c.requires.later, c.hand_over.ensures.last, c.hand_over.new.self.paced)) c.end_sync.ensures.settled
 
-pub returns-in_ok-end_late_sync-in-Some-Late-clause-settled : goal.returns-in_ok-end_late_sync-in-Some-Late-clause-settled
+pub returns-in_ok-end_late_sync-in-Some-Late-clause-settled :
+    goal.returns-in_ok-end_late_sync-in-Some-Late-clause-settled
 returns-in_ok-end_late_sync-in-Some-Late-clause-settled g c =
     synced_kept _ _ _ _ _ _ _ _ c.in_ok-hand_over.ensures.emptied c.hand_over.ensures.same
     (gathered_lawful _ _ _ _ (g.met.F.RowFile.lawful c.args.self.now.file) c.args.self.now.kept.whole
