@@ -5,15 +5,15 @@ strace -o /dev/null true 2>/dev/null || { echo 'ok early syncs are passed over: 
 [ ! -w /dev/shm ] || export TMPDIR=/dev/shm # no sync takes long there but for its delay
 . "$(dirname "$0")/build.sh"
 
-# slowly [FAULT]: a run whose syncs take 30 milliseconds each, and in which this fault is made. Its text stands in `found`,
-# what it tells in `told`, its calls in `trace`.
+# slowly [FAULT]: a run whose syncs take 30 milliseconds each, and in which this fault is made. Its text stands in
+# `found`, what it tells in `told`, its calls in `trace`.
 slowly() {
   STATUS=0
   strace -f -y -s 0 -o trace -e trace=fdatasync,fcntl,clone3 -e inject=fdatasync:delay_enter=30000 \
     ${1:+-e "inject=$1"} "$RAIDZX" "${IMAGES[@]}" -- run <script >found 2>told || STATUS=$?
 }
-# beside: how many syncs were under way at once, at most. strace ends the line of a call that another one comes into, and
-# tells its end in a line of its own.
+# beside: how many syncs were under way at once, at most. strace ends the line of a call that another one comes into,
+# and tells its end in a line of its own.
 beside() {
   awk '
     / fdatasync\(/ { under_way++; if (most < under_way) most = under_way }
@@ -52,9 +52,10 @@ for fault in clone3:error=EAGAIN fcntl:error=EMFILE; do
 done
 echo 'ok without threads or descriptors for them syncs are made one by one'
 
-# An early sync that fails: its thread is given a descriptor that is none. Each round of them asks for four, of disk1 to
-# disk4: the fourth is of the opening, the others are of both halves of both commits. Its disk has failed, and no other. A
-# later group lists it as out, and that of its own commit does, but for what has failed in the second half of the last one.
+# An early sync that fails: its thread is given a descriptor that is none. Each round of them asks for four, of disk1
+# to disk4: the fourth is of the opening, the others are of both halves of both commits. Its disk has failed, and no
+# other. A later group lists it as out, and that of its own commit does, but for what has failed in the second half of
+# the last one.
 calls 'get 7' 'sum 8' >reads
 answers <text >wanted
 for row in '4 4' '6 2' '9 1' '15 3' '20 4'; do

@@ -16,8 +16,8 @@ pub type DeviceFile<R> = Gathered<ReadAhead<ImageFile<R>>>;
 
 pub type FileBank<R> = file_bank::FileBank<DeviceFile<R>>;
 
-/// The file of a device, whose bank syncs at this pace. All the memory that its calls take is taken here, but for that of
-/// threads.
+/// The file of a device, whose bank syncs at this pace. All the memory that its calls take is taken here, but for that
+/// of threads.
 pub fn device_file<R: Host>(
     rt: R,
     alloc: Global,

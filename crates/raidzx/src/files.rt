@@ -58,7 +58,7 @@ pub struct ImageFile<R> {
     image: Image,
     /// How many calls on it have failed.
     faults: u64,
-    /// Something was written since its last sync was made or begun.
+    /// Something may have been written since its last sync was made or begun, also by an earlier run.
     is_written: bool,
     /// A sync was begun that has not ended.
     is_begun: bool,
@@ -83,7 +83,7 @@ impl<R: Host> ImageFile<R> {
             rt,
             image,
             faults: 0,
-            is_written: false,
+            is_written: true,
             is_begun: false,
             told: Arc::new(alloc, Told::new())?,
             pace,

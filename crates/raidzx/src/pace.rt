@@ -3,8 +3,8 @@
 use std::sync::atomic::{AtomicU64, Ordering};
 use std::time::{Clock, Instant};
 
-/// A sync that takes so many microseconds is a long one. A thread costs some ten, and files in memory and disks that keep
-/// what they are given in their own memory sync far faster.
+/// A sync that takes so many microseconds is a long one. A thread costs some ten, and files in memory and disks that
+/// keep what they are given in their own memory sync far faster.
 const LONG_MICROSECONDS: u128 = 1_000;
 
 /// So many syncs, one behind the other, have to be long ones before a bank counts as slow: a single one may be long
@@ -30,7 +30,8 @@ impl Pace {
         self.long_syncs.load(Ordering::SeqCst) >= ENOUGH_LONG_SYNCS
     }
 
-    /// Notes a sync that was made from this moment on up to now. One that could not be measured is none of the long ones.
+    /// Notes a sync that was made from this moment on up to now. One that could not be measured is none of the long
+    /// ones.
     pub fn note_since<C: Clock>(&self, clock: &C, began: Option<Instant>) {
         let count = if took_long(clock, began) {
             self.long_syncs.load(Ordering::SeqCst).saturating_add(1)

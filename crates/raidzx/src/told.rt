@@ -36,9 +36,9 @@ impl Told {
     }
 }
 
-/// Begins a sync of this file in a thread of its own, and tells whether it did: there may be no descriptor, no memory and
-/// no thread for it. The thread has a descriptor of its own, which it gives back before it tells of the end. It is not
-/// joined, since its end is told.
+/// Begins a sync of this file in a thread of its own, and tells whether it did: there may be no descriptor, no memory
+/// and no thread for it. The thread has a descriptor of its own, which it gives back before it tells of the end. It is
+/// not joined, since its end is told.
 pub fn sync_beside<R: Threads>(rt: &R, file: &File, told: &Arc<Told>) -> bool {
     let Ok(file) = file.try_clone() else {
         return false;
