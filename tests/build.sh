@@ -48,6 +48,9 @@ back() {
   cp -r "$1"/disk* .
 }
 
+# locked IMAGE: whether a program has it locked. To try the lock would keep that program from it for a moment.
+locked() { grep -q ":$(stat -c %i "$1") " /proc/locks; }
+
 # failed NAME FOUND: ends the check.
 failed() {
   printf 'FAILED %s: %s\n' "$1" "$2"

@@ -157,12 +157,12 @@ mkfifo pipe
 "$RAIDZX" "${IMAGES[@]}" -- run <pipe >text &
 exec 8>pipe
 calls 'put 7 2 1' >&8
-# The first has its images once another can't lock the last of them.
+# The first has its images once the last of them is locked.
 for wait in $(seq 200); do
-  flock -n disk2 true || break
+  ! locked disk2 || break
   sleep 0.05
 done
-! flock -n disk2 true || failed 'the first program' 'it has not locked its images'
+locked disk2 || failed 'the first program' 'it has not locked its images'
 for words in run 'create --parity 1 --width 3 --id 5'; do
   status=0
   "$RAIDZX" "${IMAGES[@]}" -- $words <reads >second 2>&1 || status=$?

@@ -68,10 +68,10 @@ mkfifo later
 running=$!
 exec 8>later
 for _ in $(seq 100); do
-  flock -n disk2 true || break
+  ! locked disk2 || break
   sleep 0.1
 done
-! flock -n disk2 true || failed 'a look beside a run' 'the run has not locked its images'
+locked disk2 || failed 'a look beside a run' 'the run has not locked its images'
 looks 'a look beside a run' 0 "$(lines 4 none 3)"
 calls 'put 10 1 1' sync >&8
 exec 8>&-
