@@ -3,9 +3,9 @@ use Rattle.std.proofs.Common.{◌≡◌, List, sym, subst}
 use Rattle.std.specs.Prelude.{IfSome, Option}
 use Rattle.block_record.specs.declared.entry.IndexEntry.{IndexEntry}
 use Rattle.core_blocks.specs.declared.index_page.IndexPage.{IndexPage}
-use Rattle.core_blocks.specs.IndexPage.{IsPageOf}
+use Rattle.core_blocks.specs.IndexPage.{IsDigestedPage}
 
 -- It is the page of the same entries.
 pub page_stays : (page : Option IndexPage) {entries others : List IndexEntry} → others ≡ entries
-    → IfSome page (IsPageOf entries) → IfSome page (IsPageOf others)
-page_stays page same is = subst (λ (l : List IndexEntry). IfSome page (IsPageOf l)) (sym same) is
+    → IfSome page (IsDigestedPage entries) → IfSome page (IsDigestedPage others)
+page_stays page same is = subst (λ (l : List IndexEntry). IfSome page (IsDigestedPage l)) (sym same) is

@@ -14,7 +14,7 @@ ghost use Rattle.core_state.specs.Index.{AreApart, IsFitting, block_end};
 ghost use Rattle.core_blocks.specs.Blocks.{AreInStep, AreUnderWay, HasLayouts, IsListed, IsStanding, IsUnderWay};
 ghost use Rattle.core_blocks.specs.Blocks.{range_of, put_run};
 ghost use Rattle.core_blocks.specs.Growing.{grown_by};
-ghost use Rattle.core_blocks.specs.IndexPage.{IsPageOf};
+ghost use Rattle.core_blocks.specs.IndexPage.{IsDigestedPage};
 ghost use Rattle.core_blocks.specs.declared.range.PutRange.{PutRange};
 ghost use Rattle.core_blocks.specs.Puts.{BeginsPut, HoldsBack, IsAsBefore, IsPutCause, IsRangeFor, sectors_taken};
 ghost use Rattle.core_blocks.specs.Kept.{NoneFree, SparesAll};
@@ -43,7 +43,7 @@ pub struct Blocks {
 impl Model for Blocks {
     ghost use Rattle.std.specs.Prelude.{IfSome};
     ghost use Rattle.core_blocks.specs.Blocks.{Blocks as BlocksOf, AreInStep};
-    ghost use Rattle.core_blocks.specs.IndexPage.{IsPageOf};
+    ghost use Rattle.core_blocks.specs.IndexPage.{IsDigestedPage};
 
     ghost Value = { BlocksOf };
 
@@ -59,7 +59,7 @@ impl Model for Blocks {
       births = blocks.births;
       table = blocks.table;
       space = blocks.space;
-    }) × IfSome blocks.page (IsPageOf blocks.table.entries) };
+    }) × IfSome blocks.page (IsDigestedPage blocks.table.entries) };
 }
 
 impl Blocks {
@@ -140,7 +140,7 @@ impl Blocks {
     /// The index page of the next group. It is encoded and digested once, as long as no block comes
     /// or goes.
     pub fn page(&mut self, alloc: Global) -> Result<IndexPage, AllocError>
-        ensures page { IfOk result (IsPageOf self.old.table.entries) }
+        ensures page { IfOk result (IsDigestedPage self.old.table.entries) }
         ensures same { self.new ≡ self.old }
     {
         let page = match self.page.take() {

@@ -1,7 +1,7 @@
 // The index page of a group and its digest.
 ghost use Rattle.std.specs.Prelude.{◌≡◌, ◌≤◌, IfOk, length};
 ghost use Rattle.block_record.specs.Page.{IsIndex};
-ghost use Rattle.core_blocks.specs.IndexPage.{IsPageOf};
+ghost use Rattle.core_blocks.specs.IndexPage.{IsDigestedPage};
 
 use block_record::{IndexEntry, encode_index};
 use sha2::{Digest, Sha256};
@@ -19,7 +19,7 @@ impl IndexPage {
     pub(crate) fn of(alloc: Global, entries: &[IndexEntry]) -> Result<IndexPage, AllocError>
         requires index { IsIndex entries.now }
         requires few { length entries.now ≤ 512 }
-        ensures value { IfOk result (IsPageOf entries.now) }
+        ensures value { IfOk result (IsDigestedPage entries.now) }
     {
         let bytes = encode_index(alloc, entries)?;
         let digest = Sha256::digest(bytes.as_slice());

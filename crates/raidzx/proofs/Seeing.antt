@@ -16,7 +16,7 @@ use Rattle.attach_ring.specs.Ring.{IsTakenSlot}
 use Rattle.raidzx.specs.declared.sightings.Sighting.{Sighting}
 use Rattle.raidzx.specs.declared.sightings.Sightings.{Sightings}
 use Rattle.raidzx.specs.Rings.{IsSlotUnread}
-use Rattle.raidzx.specs.Seeing.{AreSeen, IsAnyListed, IsLookedAt, IsRingListed, IsRingUnread, IsSeen, IsSeenIn}
+use Rattle.raidzx.specs.Seeing.{AreSeen, IsAnyListed, IsLookedAt, IsRingListed, IsRingUnread, IsSeen, IsOfSlot}
 use Rattle.raidzx.specs.Seeing.{IsSlotListed, NotesSlot, SeesRing}
 use Rattle.raidzx.proofs.Slots.{IsReadOf}
 use Rattle.core_open.proofs.Unchanged.{rose_then, then_rose}
@@ -35,7 +35,7 @@ pub notes_none : (bytes : List ℕ) (place slot : ℕ) (list : List Sighting) �
 notes_none bytes place slot list none = record {
   more = [];
   grows = sym (append-nil list);
-  shown = All-nil (λ sighting. IsSeenIn bytes place slot sighting);
+  shown = All-nil (λ sighting. IsOfSlot bytes place slot sighting);
   listed = λ number uber fits valid.
       absurd (none (record { uber = uber; number = number; fits = fits; valid = valid }));
 }
@@ -50,8 +50,8 @@ pub notes_found : (bytes : List ℕ) (place slot : ℕ) (before after : List Sig
 notes_found bytes place slot before after found fits valid grows = record {
   more = seen_at place found.number found.uber ∷ [];
   grows = grows;
-  shown = All-push (λ sighting. IsSeenIn bytes place slot sighting) [] (seen_at place found.number found.uber)
-      (All-nil (λ sighting. IsSeenIn bytes place slot sighting))
+  shown = All-push (λ sighting. IsOfSlot bytes place slot sighting) [] (seen_at place found.number found.uber)
+      (All-nil (λ sighting. IsOfSlot bytes place slot sighting))
       (record { place_is = refl; number = fits; valid = valid });
   listed = λ number uber small good.
       let same = valid_tells found.uber uber found.number number slot slot bytes fits small valid good in
@@ -83,7 +83,7 @@ grown before now after more next first then_next =
 
 module _ (disk : Disk) (place slot : ℕ) (read : List ℕ) (told : IsReadOf disk place slot read)
     (looked_at : IsLookedAt disk place) (in_ring : slot < ring_slots) (on_device : slot < disk.sectors) where
-  seen_of : (sighting : Sighting) → IsSeenIn read place slot sighting → IsSeen disk sighting
+  seen_of : (sighting : Sighting) → IsOfSlot read place slot sighting → IsSeen disk sighting
   seen_of sighting seen = record {
     looked_at = subst (λ (at : ℕ). IsLookedAt disk at) (sym seen.place_is) looked_at;
     slot = slot;

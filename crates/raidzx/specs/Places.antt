@@ -64,11 +64,11 @@ IsListedBy sighting uber place = (has_device sighting.uber.out place ≡ true)
     × ((sighting.number ≡ sighting.place) × AreAlike sighting.uber uber)
 
 -- The group of this uberblock lists the disk of this place as out: the uberblock does, or another one of its group.
-abbrev pub IsListedOut : List Sighting → Uber → ℕ → Type 0
-IsListedOut sightings uber place = (has_device uber.out place ≡ true)
+abbrev pub IsListedByGroup : List Sighting → Uber → ℕ → Type 0
+IsListedByGroup sightings uber place = (has_device uber.out place ≡ true)
     ⊎ Any (λ sighting. IsListedBy sighting uber place) sightings
 
 -- These are the places that its group lists as out, as the images show it.
 abbrev pub AreListed : List Sighting → Uber → ℕ → Type 0
 AreListed sightings uber places = (place : ℕ) → has_device places place ≡ true
-    ↔ ((place < 64) × IsListedOut sightings uber place)
+    ↔ ((place < 64) × IsListedByGroup sightings uber place)

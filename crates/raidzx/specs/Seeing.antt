@@ -53,7 +53,7 @@ pub record AreSeen (old new : Disk) (sightings : Sightings) : Type 0 where
       → IsLookedAt old place × IsRingUnread old new place
 
 -- It is an uberblock that these bytes of a slot are, for this place.
-pub record IsSeenIn (bytes : List ℕ) (place slot : ℕ) (sighting : Sighting) : Type 0 where
+pub record IsOfSlot (bytes : List ℕ) (place slot : ℕ) (sighting : Sighting) : Type 0 where
   pub place_is : sighting.place ≡ place
   pub number : sighting.number < 2 ^ 32
   pub valid : IsValidIn sighting.uber sighting.number slot bytes
@@ -62,7 +62,7 @@ pub record IsSeenIn (bytes : List ℕ) (place slot : ℕ) (sighting : Sighting) 
 pub record NotesSlot (bytes : List ℕ) (place slot : ℕ) (before after : List Sighting) : Type 0 where
   pub more : List Sighting
   pub grows : after ≡ before ++ more
-  pub shown : All (λ sighting. IsSeenIn bytes place slot sighting) more
+  pub shown : All (λ sighting. IsOfSlot bytes place slot sighting) more
   pub listed : IsAnyListed more place slot bytes
 
 -- The list grows by what the ring of the image at this place shows, which is all of it or is told as unread.

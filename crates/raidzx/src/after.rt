@@ -2,7 +2,7 @@
 ghost use Rattle.bank_trait.specs.Disk.{Unchanged};
 
 use crate::bank::FileBank;
-use crate::files::Host;
+use crate::files::SyncRuntime;
 use crate::notes::{
     note_failed_calls, note_further, note_out, note_taken, note_too_small, note_unknown,
 };
@@ -116,7 +116,7 @@ fn tell_of_run<R: Eprint, B: Bank>(
 
 /// Tells of each image whose calls failed, and what else a user has to know after this ending of a command. Its journal
 /// is not given back answer by answer: the process, which ends, gives all memory back at once.
-pub fn tell_files<R: Eprint, H: Host>(
+pub fn tell_files<R: Eprint, H: SyncRuntime>(
     rt: &R,
     alloc: Global,
     names: &[String],

@@ -4,7 +4,7 @@ ghost use Rattle.file_bank.specs.FileBank.{disk_of};
 ghost use Rattle.file_bank.specs.Files.{HasLongestSectors};
 ghost use Rattle.raidzx.specs.Images.{device_contents};
 
-use crate::files::{Host, Image, ImageFile};
+use crate::files::{SyncRuntime, Image, ImageFile};
 use crate::pace::Pace;
 use file_bank::{Gathered, ReadAhead};
 use raidzx_top::MOST_SECTORS;
@@ -18,7 +18,7 @@ pub type FileBank<R> = file_bank::FileBank<DeviceFile<R>>;
 
 /// The file of a device, whose bank syncs at this pace. All the memory that its calls take is taken here, but for that
 /// of threads.
-pub fn device_file<R: Host>(
+pub fn device_file<R: SyncRuntime>(
     rt: R,
     alloc: Global,
     image: Image,
@@ -30,7 +30,7 @@ pub fn device_file<R: Host>(
 }
 
 /// The bank whose devices are these files, each opened once.
-pub fn bank_over<R: Host>(files: Vec<Option<DeviceFile<R>>>, faults: Vec<u64>) -> FileBank<R>
+pub fn bank_over<R: SyncRuntime>(files: Vec<Option<DeviceFile<R>>>, faults: Vec<u64>) -> FileBank<R>
     requires counted { length faults.items ≡ length files.items }
     requires few { length files.items < 2 ^ 32 }
     ensures devices { (disk_of device_contents result).devices ≡ length files.items }

@@ -19,9 +19,9 @@ use std::time::{Clock, Instant};
 
 /// What syncs of images take of the runtime: threads beside which they are made, waits for their ends, and a clock by
 /// which it is seen whether they take long.
-pub trait Host: Threads + Wait + Clock + Drop {}
+pub trait SyncRuntime: Threads + Wait + Clock + Drop {}
 
-impl<R: Threads + Wait + Clock + Drop> Host for R {}
+impl<R: Threads + Wait + Clock + Drop> SyncRuntime for R {}
 
 /// An open file, and how many whole sectors of it may be used.
 #[derive(Drop)]
@@ -67,7 +67,7 @@ pub struct ImageFile<R> {
     pace: Arc<Pace>,
 }
 
-impl<R: Host> ImageFile<R> {
+impl<R: SyncRuntime> ImageFile<R> {
     ghost use Rattle.raidzx.specs.Images.{image_contents, image_faults, image_sectors};
 
     pub fn new(
@@ -119,7 +119,7 @@ impl<R: Host> ImageFile<R> {
 /// trusted, and all that is made of them is proved in `file_bank`. Of syncs that are begun early this is trusted: that
 /// one which ended well has made durable all that was written before it was begun, and that one which failed is told at
 /// the call that ends it.
-impl<R: Host> RowFile for ImageFile<R> {
+impl<R: SyncRuntime> RowFile for ImageFile<R> {
     ghost use Rattle.file_bank.specs.Lawful.{untold_lawful};
     ghost use Rattle.raidzx.specs.Images.{image_begun, image_contents, image_faults, image_sectors};
 

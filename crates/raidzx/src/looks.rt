@@ -3,7 +3,7 @@
 
 use crate::bank::FileBank;
 use crate::door::{Survey, look_around};
-use crate::files::Host;
+use crate::files::SyncRuntime;
 use crate::run_over;
 use crate::sightings::see;
 use crate::streams::Output;
@@ -28,7 +28,7 @@ pub struct Look<B> {
 }
 
 /// Looks until the images have not changed under a look, or too often.
-pub fn look_until_quiet<R: Threads + Wait + Sync, H: Host + Send>(
+pub fn look_until_quiet<R: Threads + Wait + Sync, H: SyncRuntime + Send>(
     rt: &HostRuntime,
     threads: &R,
     command: &[String],
@@ -47,7 +47,7 @@ pub fn look_until_quiet<R: Threads + Wait + Sync, H: Host + Send>(
 }
 
 /// Looks at the images once. What is to be printed is kept, as a later look may take its place.
-fn look_once<R: Threads + Wait + Sync, H: Host + Send>(
+fn look_once<R: Threads + Wait + Sync, H: SyncRuntime + Send>(
     rt: &HostRuntime,
     threads: &R,
     command: &[String],

@@ -35,7 +35,7 @@ use bank::{DeviceFile, FileBank, bank_over, device_file};
 use bank_mem::MemBank;
 use bank_trait::{Bank, Sink};
 use entry::{look_first, tell_look};
-use files::Host;
+use files::SyncRuntime;
 use hints::{hint_limit, hint_line};
 use looks::look_until_quiet;
 use notes::{note_busy, note_failed_calls, note_unopened};
@@ -93,7 +93,7 @@ struct Opened<B> {
 }
 
 /// Opens the image of a device, and tells why it could not be opened. Gives its file, and how many sectors it has.
-fn open_device<H: Host>(
+fn open_device<H: SyncRuntime>(
     rt: &HostRuntime,
     host: H,
     pace: &Arc<Pace>,
@@ -120,7 +120,7 @@ fn open_device<H: Host>(
 /// Opens the files that the words from the second on name, so many of them, in this order, and tells why one could not
 /// be opened. At the first one that another program has, or that this one is refused, it stops: of two programs that
 /// want to change the same images one gets them all.
-fn open_files<H: Host + Copy>(
+fn open_files<H: SyncRuntime + Copy>(
     rt: &HostRuntime,
     host: H,
     words: &[String],
@@ -195,7 +195,7 @@ fn output(rt: &HostRuntime) -> Output<Printer<'_, HostRuntime>> {
 }
 
 /// Carries out a command that changes files, if it is let in, and tells what a user has to know.
-fn serve_files<R: Threads + Wait + Sync, H: Host + Send>(
+fn serve_files<R: Threads + Wait + Sync, H: SyncRuntime + Send>(
     rt: &HostRuntime,
     threads: &R,
     names: &[String],
@@ -220,7 +220,7 @@ fn serve_files<R: Threads + Wait + Sync, H: Host + Send>(
 }
 
 /// Looks at files, and tells what they show.
-fn serve_look<R: Threads + Wait + Sync, H: Host + Send>(
+fn serve_look<R: Threads + Wait + Sync, H: SyncRuntime + Send>(
     rt: &HostRuntime,
     threads: &R,
     names: &[String],

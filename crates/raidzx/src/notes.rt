@@ -1,7 +1,7 @@
 // What a user is told of each image, on standard error: one line each. A line that can't be written changes nothing.
 
 use crate::bank::FileBank;
-use crate::files::Host;
+use crate::files::SyncRuntime;
 use crate::opening::Unopened;
 use crate::seen::Seen;
 use bank_trait::Bank;
@@ -59,7 +59,7 @@ pub fn note_short<R: Eprint>(rt: &R, names: &[String], lengths: &[u64], disks: u
 }
 
 /// The images whose calls failed. One that could not be opened is told as such.
-pub fn note_failed_calls<R: Eprint, H: Host>(
+pub fn note_failed_calls<R: Eprint, H: SyncRuntime>(
     rt: &R,
     names: &[String],
     lengths: &[u64],

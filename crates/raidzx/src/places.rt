@@ -3,7 +3,7 @@ ghost use Rattle.std.specs.Prelude.{◌≡◌, ◌<◌, ◌≤◌, ◌⊎◌, �
 ghost use Rattle.std.specs.List.{Any};
 ghost use Rattle.uberblock_ring.specs.Devices.{has_device};
 ghost use Rattle.uberblock_ring.specs.Valid.{AreAlike};
-ghost use Rattle.raidzx.specs.Places.{AreListed, IsElsewhereAt, IsListedBy, IsListedOut, ShowsElsewhere};
+ghost use Rattle.raidzx.specs.Places.{AreListed, IsElsewhereAt, IsListedBy, IsListedByGroup, ShowsElsewhere};
 
 use crate::sightings::{LOOKED_AT, Sighting};
 use uberblock_ring::{DeviceSet, Uber, are_alike};
@@ -67,7 +67,7 @@ pub fn listed_out(sightings: &[Sighting], uber: &Uber) -> DeviceSet
 
 /// Whether the group of this uberblock lists the disk of this place as out, as the images show it.
 fn is_listed_out(sightings: &[Sighting], uber: &Uber, place: u32) -> bool
-    ensures { IsTrue result ↔ IsListedOut sightings.now uber.now place }
+    ensures { IsTrue result ↔ IsListedByGroup sightings.now uber.now place }
 {
     uber.out().has(place) || is_listed_by_any(sightings, uber, place)
 }

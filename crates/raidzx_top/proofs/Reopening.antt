@@ -282,7 +282,8 @@ module _ (setting : Setting) (first : Kept) (later : List Kept) (old : Disk) (ma
           later = now.later;
           among = row_among (record { before = now.before; after = now.after; row = now.row });
           may = goes_on_begins setting ((first ∷ later) ++ joined) first.uber.parity new now
-              (may.may.shape ∙ sym (same_shape old new onward)) (λ kept listed. (joined_right kept listed).excepted) told.tells told.no_other joined_parity
+              (may.may.shape ∙ sym (same_shape old new onward)) (λ kept listed. (joined_right kept listed).excepted)
+              told.tells told.no_other joined_parity
               (λ kept id content listed. (joined_right kept listed).bytes id content);
         };
         any_moment = λ moment image from until left.

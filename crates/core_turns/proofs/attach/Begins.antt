@@ -64,8 +64,8 @@ module _ {setting : Setting} {last : Kept} {begun : List Kept} {map : Map} {cont
   guest = search (free_is_blank, width, arith)
 
   -- What stands goes on standing with the commit, in a pool that reaches as far as its last group does.
-  pub attach_joins_stands : (next : Kept) × (next.map ≡ map) × (next.excepted ≡ []) × (next.uber.group ≡ after.core.begun)
-      × (next.uber.reflow ≡ before.core.pool.uber.reflow) × (next.uber.parity ≡ before.core.pool.uber.parity)
+  pub attach_joins_stands : (next : Kept) × (next.map ≡ map) × (next.excepted ≡ [])
+      × (next.uber.group ≡ after.core.begun) × (next.uber.reflow ≡ before.core.pool.uber.reflow) × (next.uber.parity ≡ before.core.pool.uber.parity)
       × Stands narrow last (next ∷ []) map contents calls (Some join.run) after
       × HoldsAttach narrow last (next ∷ []) after.disk (Joins join)
   attach_joins_stands =

@@ -23,7 +23,7 @@ use Rattle.core_turns.proofs.state.Holds.{alone_beside, alone_passes, KeepsAlone
 use Rattle.core_turns.proofs.copy.Beside.{off_target}
 use Rattle.core_turns.proofs.copy.Laws.{all_used, target_data}
 use Rattle.core_turns.proofs.copy.Turns.{IsWrittenBy, due_runs, hold_at_front, none_left, step_touches_target}
-use Rattle.core_turns.proofs.state.Writes.{AreSpare, since_written, writes_stand}
+use Rattle.core_turns.proofs.state.Writes.{AreSpare, off_call, off_right, since_written, writes_stand}
 
 -- A job that comes adds no put.
 job_adds : {left calls : List HoldingCall} {run : CopyRun} → Gains left calls (Copying run) → AddsNoPut left calls
@@ -235,7 +235,9 @@ module _ {before after : CoreState} {run next : CopyRun} (is : IsCore before.cor
         → Stands setting last begun map contents nexts commit after
     job_steps_stands still_lawful again =
         writes_stand after touched within lawful few (spare_now setting last begun calls stands.alike) steps.rest
-        still_lawful is.is.front table_off call_off gains again
+        still_lawful (off_right before after touched within is.is.front table_off)
+        (λ other beside its. off_call before after touched within is.is.front other (call_off other beside its))
+        gains again
         (λ group spares put listed. spares put (call_loses gains put (job_adds again put listed)))
         (copies_on stands.tells stands.bank (stands.each (Copying run) (gains_item left calls (Copying run) gains))) are
         stands

@@ -21,7 +21,7 @@ use Rattle.core_turns.proofs.put.Stands.{listed_clear, next_spares}
 use Rattle.core_turns.proofs.copy.Beside.{job_off_written}
 use Rattle.core_turns.proofs.put.Goes.{outs_by_write, touches_by_write}
 use Rattle.core_turns.proofs.put.Turns.{same_filled, written}
-use Rattle.core_turns.proofs.state.Writes.{AreSpare, since_written, writes_stand, written_by}
+use Rattle.core_turns.proofs.state.Writes.{AreSpare, off_call, off_right, since_written, writes_stand, written_by}
 
 -- A put has no sector in common with a block of this group, whose blocks lie in the pool.
 record IsClearOf (layout : Layout) (reflow : Reflow) (done : ℕ) (kept : Kept) : Type 0 where
@@ -184,8 +184,10 @@ module _ {left calls : List HoldingCall} {before after : CoreState} {run next : 
     pub put_writes_stands : {nexts : List HoldingCall} → Lawful after.disk → Gains left nexts (Putting next)
         → Stands setting last begun map contents nexts commit after
     put_writes_stands still_lawful again =
-        writes_stand after touched outs.still lawful few spare_now writes.rest still_lawful is.is.front table_off
-        calls_off gains again
+        writes_stand after touched outs.still lawful few spare_now writes.rest still_lawful
+        (off_right before after touched outs.still is.is.front table_off)
+        (λ other beside its. off_call before after touched outs.still is.is.front other (calls_off other beside its))
+        gains again
         (λ group. next_spares before group (Some (written writes.filled)) gains (search arith)) holds_further are stands
 
     -- Each image keeps what it kept, at each moment of it.

@@ -2,6 +2,7 @@
 use Rattle.core_turns.proofs.Words.{◌≡◌, ◌≢◌, ℕ, ◌≤◌, List, Option, false, ◌∙◌, arith, Contains, Unchanged, TouchesOnly}
 use Rattle.core_turns.proofs.Words.{Hold, EndsHold, Reflow, Layout, IsRequiredPlace, IsFrontOf, IndexEntry, has_device}
 use Rattle.core_turns.proofs.Words.{IsWithin, layout_of, Cell, IsCell, Nowhere, IsDataSector, AreUnderWay, IsListed}
+use Rattle.core_turns.proofs.Words.{IsRightBlock, block_stays}
 use Rattle.core_turns.proofs.Words.{layout_run, AreClear, point_of, IsInPool, written_stays, SparesData, count_grows}
 use Rattle.core_turns.proofs.Words.{CopyRun, GetRun, PutRun, Core, CoreState, IsGetOf, HoldsGet, AsksAlike, IsPutOf}
 use Rattle.core_turns.proofs.Words.{HoldsPut, IsJobOf, HoldingCall, Putting, Reading, Copying, hold_of_call, ranges_of}
@@ -23,6 +24,22 @@ pub record Leaves (P : ℕ → ℕ → Type 0) (before after : CoreState) : Type
   pub reads : (device device_sector : ℕ) → has_device after.core.pool.out device ≡ false → IsDataSector device_sector
       → (P device device_sector → ⊥) → after.disk.reads device device_sector ≡ before.disk.reads device device_sector
 
+-- A block of these bytes is read at each place where it has to be right, on each device that is not out.
+abbrev pub IsReadAt : CoreState → IndexEntry → List ℕ → Type 0
+IsReadAt state entry content =
+    IsRightBlock (layout_of state.core.pool.uber.parity state.core.pool.uber.births entry) content
+    state.core.pool.uber.reflow state.core.pool.done state.disk.reads state.core.pool.out
+
+-- Each block that stands in the table and is right stays right.
+abbrev pub KeepsRight : CoreState → CoreState → Type 0
+KeepsRight before after = (entry : IndexEntry) (content : List ℕ)
+    → IsListed before.core.pool.blocks.table.entries entry
+    → IsReadAt before entry content → IsReadAt after entry content
+
+-- What a call under way holds it holds still.
+abbrev pub KeepsCall : CoreState → CoreState → HoldingCall → Type 0
+KeepsCall before after call = (content : List ℕ) → HoldsCall before content call → HoldsCall after content call
+
 -- No place that a block requires is one of these.
 abbrev pub IsOff : (ℕ → ℕ → Type 0) → Reflow → ℕ → Layout → Type 0
 IsOff P reflow done layout = (content : List ℕ) (cell : Cell) (device device_sector : ℕ) → IsCell layout content cell
@@ -39,6 +56,17 @@ abbrev pub IsCallOff : (ℕ → ℕ → Type 0) → Reflow → ℕ → HoldingCa
 IsCallOff P reflow done (Putting run) = IsOff P reflow done run.range.layout
 IsCallOff P reflow done (Reading run) = IsOff P reflow done run.read.layout
 IsCallOff P reflow done (Copying run) = IsJobOff P reflow done run.job
+
+-- A right block of the table stays right where it is off what was written.
+pub off_keeps : (P : ℕ → ℕ → Type 0) (before after : CoreState) → Leaves P before after → AreOff P before.core
+    → KeepsRight before after
+off_keeps P before after leaves off entry content listed right =
+    rw (leaves.parity, leaves.births, leaves.reflow, leaves.done)
+    (block_stays (layout_of before.core.pool.uber.parity before.core.pool.uber.births entry) content
+    before.core.pool.uber.reflow before.core.pool.done before.disk.reads after.disk.reads before.core.pool.out
+    after.core.pool.out leaves.within
+    (λ cell device device_sector is place used read. leaves.reads device device_sector used
+    (search (required_data, leaves.front)) (off entry listed content cell device device_sector is place) ∙ read) right)
 
 -- Where nothing is written, each block is off that, and so is a job;
 pub off_nowhere : (reflow : Reflow) (done : ℕ) (layout : Layout) → IsOff Nowhere reflow done layout

@@ -1,35 +1,27 @@
 -- What a turn leaves of the map, of the groups, and of all that stands.
 use Rattle.core_turns.proofs.Words.{◌≡◌, ℕ, List, Option, Some, None, refl, ◌∙◌, arith, Contains, Disk, Lawful, Later}
-use Rattle.core_turns.proofs.Words.{Unchanged, tells_later, IndexEntry, IsWithin, Map, layout_of, Kept, Setting}
+use Rattle.core_turns.proofs.Words.{Unchanged, tells_later, IndexEntry, IsWithin, Map, Kept, Setting}
 use Rattle.core_turns.proofs.Words.{KeepsSince, Nowhere, none_lost, unchanged_frames, knows_frame, IsListed}
-use Rattle.core_turns.proofs.Words.{OnlyFailedGoOut, point_of, IsRightBlock, CommitRun, committing_unchanged, HoldsMap}
-use Rattle.core_turns.proofs.Words.{bank_later, count_grows, block_stays, Core, CoreState, pool_at, IsCommitOf}
+use Rattle.core_turns.proofs.Words.{OnlyFailedGoOut, point_of, CommitRun, committing_unchanged, HoldsMap}
+use Rattle.core_turns.proofs.Words.{bank_later, count_grows, Core, CoreState, pool_at, IsCommitOf}
 use Rattle.core_turns.proofs.Words.{hold_for, HoldingCall, actor_of, HoldsCall, LiesInPool, PutsSpare, GroupsStand}
 use Rattle.core_turns.proofs.Words.{CommitStands, IsCommitting, Stands}
-use Rattle.core_turns.proofs.put.Places.{required_data}
 use Rattle.core_turns.proofs.state.Holds.{KeepsAlone, keeps_same}
-use Rattle.core_turns.proofs.state.Frames.{Leaves, AreOff, IsCallOff, OnlyOut, call_stays}
+use Rattle.core_turns.proofs.state.Frames.{Leaves, AreOff, IsCallOff, IsReadAt, KeepsRight, OnlyOut, call_stays}
+use Rattle.core_turns.proofs.state.Frames.{off_keeps}
 use Rattle.core_turns.proofs.Words.{row_at}
 
 -- ---- the map
 
--- The map is held still where its blocks are off what was written.
-pub map_stays : (P : ℕ → ℕ → Type 0) (map : Map) (before after : CoreState) → Leaves P before after
-    → after.core.pool.blocks.table.entries ≡ before.core.pool.blocks.table.entries → AreOff P before.core
+-- The map is held still where its blocks stay right.
+pub map_stays : (map : Map) (before after : CoreState)
+    → after.core.pool.blocks.table.entries ≡ before.core.pool.blocks.table.entries → KeepsRight before after
     → HoldsMap map (pool_at before) → HoldsMap map (pool_at after)
-map_stays P map before after leaves table off holds = search (right, arith)
+map_stays map before after table keeps holds = search (right, arith)
   where
     right : (entry : IndexEntry) (content : List ℕ) → IsListed before.core.pool.blocks.table.entries entry
-        → map entry.id ≡ Some content
-        → IsRightBlock (layout_of after.core.pool.uber.parity after.core.pool.uber.births entry) content
-        after.core.pool.uber.reflow after.core.pool.done after.disk.reads after.core.pool.out
-    right entry content listed has = rw (leaves.parity, leaves.births, leaves.reflow, leaves.done)
-        (block_stays (layout_of before.core.pool.uber.parity before.core.pool.uber.births entry) content
-        before.core.pool.uber.reflow before.core.pool.done before.disk.reads after.disk.reads before.core.pool.out
-        after.core.pool.out leaves.within
-        (λ cell device device_sector is place used read. leaves.reads device device_sector used
-        (search (required_data, leaves.front)) (off entry listed content cell device device_sector is place) ∙ read)
-        (holds.right entry content listed has))
+        → map entry.id ≡ Some content → IsReadAt after entry content
+    right entry content listed has = keeps entry content listed (holds.right entry content listed has)
 
 -- ---- the groups
 
@@ -115,24 +107,24 @@ since_read setting groups time old new same since = record {
 module _ {setting : Setting} {last : Kept} {begun : List Kept} {map : Map} where
   -- What stands, where uberblock and blocks are as they were: the groups and the calls are told anew.
   pub stands_still : {contents nows : ℕ → List ℕ} {calls nexts : List HoldingCall} {commit next : Option CommitRun}
-      (P : ℕ → ℕ → Type 0) (before after : CoreState) → Leaves P before after → AreOff P before.core
+      (before after : CoreState) → IsWithin before.core.pool.out after.core.pool.out → KeepsRight before after
       → after.core.pool.uber ≡ before.core.pool.uber → after.core.reach ≡ before.core.reach
       → after.core.pool.blocks ≡ before.core.pool.blocks
       → Later before.disk after.disk → GroupsStand setting last begun nexts next after → PutsSpare after nexts last
       → ((call : HoldingCall) → Contains nexts call → HoldsCall after (nows (actor_of call)) call)
       → Stands setting last begun map contents calls commit before → Stands setting last begun map nows nexts next after
-  stands_still P before after leaves off uber reach blocks later groups spared each stands =
-      let holds = map_stays P map before after leaves (cc) off stands.holds in
+  stands_still before after within keeps uber reach blocks later groups spared each stands =
+      let holds = map_stays map before after (cc) keeps stands.holds in
       search (uber, reach, tells_later, bank_later, arith)
 
   -- So it is where only devices went out.
   pub stands_anew : {contents nows : ℕ → List ℕ} {calls nexts : List HoldingCall} {commit next : Option CommitRun}
-      (P : ℕ → ℕ → Type 0) (before after : CoreState)
-      → Leaves P before after → AreOff P before.core → OnlyOut before.core after.core → Later before.disk after.disk
+      (before after : CoreState) → IsWithin before.core.pool.out after.core.pool.out → KeepsRight before after
+      → OnlyOut before.core after.core → Later before.disk after.disk
       → GroupsStand setting last begun nexts next after → PutsSpare after nexts last
       → ((call : HoldingCall) → Contains nexts call → HoldsCall after (nows (actor_of call)) call)
       → Stands setting last begun map contents calls commit before → Stands setting last begun map nows nexts next after
-  stands_anew P before after leaves off core = stands_still P before after leaves off (rw core) (rw core) (rw core)
+  stands_anew before after within keeps core = stands_still before after within keeps (rw core) (rw core) (rw core)
 
   -- What stands, over a turn that is none of these calls', as a step of a commit.
   pub stands_frame : {contents : ℕ → List ℕ} {calls : List HoldingCall} {commit next : Option CommitRun}
@@ -143,5 +135,6 @@ module _ {setting : Setting} {last : Kept} {begun : List Kept} {map : Map} where
       → GroupsStand setting last begun calls next after → Stands setting last begun map contents calls commit before
       → Stands setting last begun map contents calls next after
   stands_frame P before after leaves calls_off off core later groups stands =
-      stands_anew P before after leaves off core later groups (λ run listed. rw core (stands.spared run listed))
+      stands_anew before after leaves.within (off_keeps P before after leaves off) core later groups
+      (λ run listed. rw core (stands.spared run listed))
       (λ call listed. search (call_stays, calls_off, stands.each)) stands

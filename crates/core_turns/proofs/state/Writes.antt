@@ -9,7 +9,8 @@ use Rattle.core_turns.proofs.Words.{shown_of, arith}
 use Rattle.core_commit.specs.declared.commit_run.Stage.TheVariants.{Signs}
 use Rattle.core_turns.proofs.free.TakenBack.{each_gained}
 use Rattle.core_turns.proofs.state.Calls.{beside_turn}
-use Rattle.core_turns.proofs.state.Frames.{AreOff, IsCallOff, Leaves, OnlyOut, call_stays, leaves_touched}
+use Rattle.core_turns.proofs.state.Frames.{AreOff, IsCallOff, KeepsCall, KeepsRight, Leaves, OnlyOut, call_stays}
+use Rattle.core_turns.proofs.state.Frames.{leaves_touched, off_keeps}
 use Rattle.core_turns.proofs.state.StandFrames.{commit_still, lies_still, out_leaves, stands_anew}
 
 -- Of one group that was begun images can show what its commit has come to.
@@ -32,6 +33,20 @@ pub record AreSpare (P : ℕ → ℕ → Type 0) (setting : Setting) (last : Kep
 abbrev pub written_by : CoreState → CoreState → CoreState
 written_by before after =
     at_disk (record before.core { pool = record before.core.pool { out = after.core.pool.out } }) after.disk
+
+-- What is off a write is kept: right blocks of the table, and what other calls hold.
+module _ (before after : CoreState) {P : ℕ → ℕ → Type 0} (touched : TouchesOnly P before.disk after.disk)
+    (within : IsWithin before.core.pool.out after.core.pool.out)
+    (front : IsFrontOf before.core.pool.uber.reflow before.core.pool.done) where
+  leaves_written : Leaves P before (written_by before after)
+  leaves_written = search (leaves_touched, arith)
+
+  pub off_right : AreOff P before.core → KeepsRight before (written_by before after)
+  off_right off = off_keeps P before (written_by before after) leaves_written off
+
+  pub off_call : (call : HoldingCall) → IsCallOff P before.core.pool.uber.reflow before.core.pool.done call
+      → KeepsCall before (written_by before after) call
+  off_call call off content = call_stays P content before (written_by before after) call leaves_written off
 
 module _ {before : CoreState} (after : CoreState) {P : ℕ → ℕ → Type 0} (touched : TouchesOnly P before.disk after.disk)
     (within : IsWithin before.core.pool.out after.core.pool.out) (lawful : Lawful before.disk)
@@ -58,25 +73,22 @@ module _ {before : CoreState} (after : CoreState) {P : ℕ → ℕ → Type 0} (
       (rw (← ap (λ (l : List Kept). shown_in l commit.stage) stands.begun_is ∙ shown_one stands.next commit.stage) row)
       kept
 
-  -- All stands still, where the call that writes has come further and others' places are off the write.
+  -- All stands still, where the call that writes has come further, blocks stay right, and others hold what they held.
   pub writes_stand : {contents : ℕ → List ℕ} {map : Map} {commit : Option CommitRun} {left nexts : List HoldingCall}
       {call next : HoldingCall} → OnlyOut before.core after.core → Lawful after.disk
-      → IsFrontOf before.core.pool.uber.reflow before.core.pool.done → AreOff P before.core
+      → KeepsRight before (written_by before after)
       → ((other : HoldingCall) → AreBeside call other → IsCallOfCore before.core other
-      → IsCallOff P before.core.pool.uber.reflow before.core.pool.done other)
+      → KeepsCall before (written_by before after) other)
       → Gains left calls call → Gains left nexts next
       → ((group : Kept) → PutsSpare before calls group → PutsSpare before nexts group)
       → HoldsCall (written_by before after) (contents (actor_of next)) next → AreCallsOf before.core calls
       → Stands setting last begun map contents calls commit before
       → Stands setting last begun map contents nexts commit after
-  writes_stand {contents} {commit = commit} {left} {nexts} {call} {next} same still_lawful front off calls_off gains
+  writes_stand {contents} {commit = commit} {left} {nexts} {call} {next} same still_lawful right keeps gains
       again fewer holds are stands =
-      rw same (stands_anew P before (written_by before after) leaves off refl touched.later
+      rw same (stands_anew before (written_by before after) within right refl touched.later
       (search (groups_written, arith)) (fewer last stands.spared)
       (each_gained again holds (λ other rest.
       let was = gains_old left calls call other gains rest in
       let beside = pairs_beside AreBeside beside_turn calls left call other gains are.beside rest in
-      grind (arith, call_stays, leaves, beside))) stands)
-    where
-      leaves : Leaves P before (written_by before after)
-      leaves = search (leaves_touched, arith)
+      keeps other beside (are.each other was) (contents (actor_of other)) (stands.each other was))) stands)
