@@ -1,5 +1,5 @@
 -- A block that is written or read one device call at a time.
-use Rattle.std.proofs.Common.{◌≡◌, ◌≢◌, ◌⊎◌, inl, inr, ⊎_elim, ℕ, ◌+◌, ◌<◌, ◌≤◌, List, length, Bool, true, false}
+use Rattle.std.proofs.Common.{◌≡◌, ◌≢◌, ◌⊎◌, inl, inr, ⊎_elim, ℕ, ◌+◌, ◌<◌, ◌≤◌, List, [], length, Bool, true, false}
 use Rattle.std.proofs.Common.{Option, Some, None, refl, sym, ◌∙◌, ap, subst, arith}
 use Rattle.std.specs.Prelude.{◌&&◌, nat_lt, slice_get, Contains, IsSome, if◌then◌else◌}
 use Rattle.std.proofs.lemmas.Bool.{cases_eq, cases_lt, true≢false}
@@ -17,6 +17,8 @@ use Rattle.reconstruct.specs.Rows.{column_at}
 use Rattle.reconstruct.specs.Lost.{IsLeftOver}
 use Rattle.uberblock_ring.specs.Devices.{has_device, count_of, IsWithin}
 use Rattle.core_state.specs.Committing.{Point}
+use Rattle.core_state.specs.Whole.{Excepted, IsAmong}
+use Rattle.core_state.proofs.Listed.{contains_none}
 use Rattle.core_client.specs.declared.columns_read.ColumnsRead.{ColumnsRead}
 use Rattle.core_client.specs.Pool.{IsInPool, IsRightBlock}
 use Rattle.core_state.specs.SpotReads.{IsGot}
@@ -145,11 +147,11 @@ module _ (layout : Layout) (bytes : List ℕ) (reflow : Reflow) (done : ℕ) (ru
       (λ (one : IsMade run.rows write before after). made one (told one.called.in_use))
       step
 
--- Once all writes were made or passed over, the block is right.
+-- Once all writes were made or passed over, the block is right, whatever may be wrong.
 pub written_all : (layout : Layout) (bytes : List ℕ) (reflow : Reflow) (done : ℕ) (known : Known) (out : ℕ) (run : BlockWrite)
     → run.next ≡ length run.writes → IsWrittenSoFar layout bytes reflow done known out run
-    → IsRightBlock layout bytes reflow done known out
-written_all layout bytes reflow done known out run whole so_far = record {
+    → (wrong : Excepted) → IsRightBlock layout bytes reflow done known out wrong
+written_all layout bytes reflow done known out run whole so_far wrong = record {
   each = λ cell is. record {
     at = λ device device_sector required used not_odd.
         let at_sector : IsRequiredPlace reflow done (end_of layout is.row) cell.sector device device_sector =
@@ -183,9 +185,9 @@ place_begun layout read is shape zero = record {
 }
 
 -- Nothing was read yet.
-pub read_begun : (layout : Layout) (bytes : List ℕ) (reflow : Reflow) (out : ℕ) (run : BlockRead)
-    → IsReadBegun layout run → IsReadSoFar bytes reflow out run
-read_begun layout bytes reflow out run begun = record {
+pub read_begun : (layout : Layout) (bytes : List ℕ) (reflow : Reflow) (out : ℕ) (wrong : Excepted) (run : BlockRead)
+    → IsReadBegun layout run → IsReadSoFar bytes reflow out wrong run
+read_begun layout bytes reflow out wrong run begun = record {
   got = λ row column there before. absurd (⊎_elim
       (λ low. let first = begun.first.0 in omega (arith, low, first))
       (λ here. let first = begun.first.1 in omega (arith, here.1, first)) before);
@@ -195,29 +197,49 @@ read_begun layout bytes reflow out run begun = record {
 }
 
 -- A column that was read stays so while more devices go out.
-pub column_stays : (layout : Layout) (bytes : List ℕ) (reflow : Reflow) (out still row column : ℕ) (given : Option (List ℕ))
-    → IsWithin out still → IsColumnOf layout bytes reflow out row column given
-    → IsColumnOf layout bytes reflow still row column given
-column_stays layout bytes reflow out still row column None within is = within (spot_of layout reflow row column).device is
-column_stays layout bytes reflow out still row column (Some got) within is = is
+pub column_stays : (layout : Layout) (bytes : List ℕ) (reflow : Reflow) (out still : ℕ) (wrong : Excepted)
+    (row column : ℕ) (given : Option (List ℕ)) → IsWithin out still
+    → IsColumnOf layout bytes reflow out wrong row column given
+    → IsColumnOf layout bytes reflow still wrong row column given
+column_stays layout bytes reflow out still wrong row column None within is =
+    within (spot_of layout reflow row column).device is
+column_stays layout bytes reflow out still wrong row column (Some got) within is = is
 
-pub read_stays : (bytes : List ℕ) (reflow : Reflow) (out still : ℕ) (run : BlockRead) → IsWithin out still
-    → IsReadSoFar bytes reflow out run → IsReadSoFar bytes reflow still run
-read_stays bytes reflow out still run within so_far = record {
-  got = λ row column there before. column_stays run.layout bytes reflow out still row column (got_of run.read row column) within
-      (so_far.got row column there before);
+pub read_stays : (bytes : List ℕ) (reflow : Reflow) (out still : ℕ) (wrong : Excepted) (run : BlockRead)
+    → IsWithin out still → IsReadSoFar bytes reflow out wrong run → IsReadSoFar bytes reflow still wrong run
+read_stays bytes reflow out still wrong run within so_far = record {
+  got = λ row column there before. column_stays run.layout bytes reflow out still wrong row column (got_of run.read row column)
+      within (so_far.got row column there before);
+  missing = so_far.missing;
+}
+
+-- A column is so where more may be wrong,
+column_with_more : (layout : Layout) (bytes : List ℕ) (reflow : Reflow) (out : ℕ) (wrong more : Excepted)
+    (row column : ℕ) (given : Option (List ℕ)) → IsAmong wrong more
+    → IsColumnOf layout bytes reflow out wrong row column given
+    → IsColumnOf layout bytes reflow out more row column given
+column_with_more layout bytes reflow out wrong more row column None among is = is
+column_with_more layout bytes reflow out wrong more row column (Some got) among is = λ none. is (λ listed. none (among _ listed))
+
+-- and so is what was read so far.
+pub read_with_more : (bytes : List ℕ) (reflow : Reflow) (out : ℕ) (wrong more : Excepted) (run : BlockRead)
+    → IsAmong wrong more → IsReadSoFar bytes reflow out wrong run → IsReadSoFar bytes reflow out more run
+read_with_more bytes reflow out wrong more run among so_far = record {
+  got = λ row column there before. column_with_more run.layout bytes reflow out wrong more row column
+      (got_of run.read row column) among (so_far.got row column there before);
   missing = so_far.missing;
 }
 
 -- What reading a column of a right block gives is the block's.
 pub column_got : (layout : Layout) (bytes : List ℕ) (reflow : Reflow) (done : ℕ) (known : Known) (before after row column : ℕ)
-    (given : Option (List ℕ)) → IsInPool layout reflow → IsFrontIn reflow.state reflow done
-    → IsRightBlock layout bytes reflow done known before → IsColumn layout row column
+    (wrong : Excepted) (given : Option (List ℕ)) → IsInPool layout reflow → IsFrontIn reflow.state reflow done
+    → IsRightBlock layout bytes reflow done known before wrong → IsColumn layout row column
     → IsGot known before after (spot_of layout reflow row column) given
-    → IsColumnOf layout bytes reflow after row column given
-column_got layout bytes reflow done known before after row column None pool front right there got = got
-column_got layout bytes reflow done known before after row column (Some bytes_got) pool front right there got =
-    got.1 (column_bytes layout bytes row column) (told_there layout reflow done known before bytes row column pool front right there got.0)
+    → IsColumnOf layout bytes reflow after wrong row column given
+column_got layout bytes reflow done known before after row column wrong None pool front right there got = got
+column_got layout bytes reflow done known before after row column wrong (Some bytes_got) pool front right there got =
+    λ not_wrong. got.1 (column_bytes layout bytes row column)
+    (told_there layout reflow done known before bytes row column wrong pool front right there not_wrong got.0)
 
 -- What comes before the next column once one more was read came before, or is that one.
 before_more : (before after : BlockRead) (row column : ℕ) → GoesOneOn before after → column < columns_in before.layout row
@@ -246,15 +268,15 @@ before_more before after row column on inside earlier = ⊎_elim
     on.next
 
 -- One column more was read.
-pub read_more : (bytes : List ℕ) (reflow : Reflow) (done : ℕ) (before after : BlockRead) (here there : Point)
-    → IsAtColumn before → before.row < rows_of before.layout → IsInPool before.layout reflow → IsFrontIn reflow.state reflow done
-    → IsRightBlock before.layout bytes reflow done here.disk.reads here.out
-    → ReadsColumn reflow before here after there → IsReadSoFar bytes reflow here.out before
-    → IsReadSoFar bytes reflow there.out after
-read_more bytes reflow done before after here there place left pool front right reads so_far = record {
+pub read_more : (bytes : List ℕ) (reflow : Reflow) (done : ℕ) (wrong : Excepted) (before after : BlockRead)
+    (here there : Point) → IsAtColumn before → before.row < rows_of before.layout → IsInPool before.layout reflow → IsFrontIn reflow.state reflow done
+    → IsRightBlock before.layout bytes reflow done here.disk.reads here.out wrong
+    → ReadsColumn reflow before here after there → IsReadSoFar bytes reflow here.out wrong before
+    → IsReadSoFar bytes reflow there.out wrong after
+read_more bytes reflow done wrong before after here there place left pool front right reads so_far = record {
   got = λ row column is earlier.
       let was : IsColumn before.layout row column = subst (λ (l : Layout). IsColumn l row column) reads.on.layout_is is in
-      subst (λ (l : Layout). IsColumnOf l bytes reflow there.out row column (got_of after.read row column)) (sym reads.on.layout_is)
+      subst (λ (l : Layout). IsColumnOf l bytes reflow there.out wrong row column (got_of after.read row column)) (sym reads.on.layout_is)
       (⊎_elim
       (λ old. old_got row column was old (cases_eq row before.row) (cases_eq column before.column))
       (λ new. now_got row column new.0 new.1)
@@ -279,26 +301,27 @@ read_more bytes reflow done before after here there place left pool front right 
         (⊎_elim (λ same. inr (λ also. apart same also)) (λ differs. inl differs) (cases_eq row before.row))
 
     now_got : (row column : ℕ) → row ≡ before.row → column ≡ before.column
-        → IsColumnOf before.layout bytes reflow there.out row column (got_of after.read row column)
+        → IsColumnOf before.layout bytes reflow there.out wrong row column (got_of after.read row column)
     now_got row column same also =
         let at : IsColumn before.layout before.row before.column = record { row_in = left; column_in = place.column_in left } in
-        subst (λ (r : ℕ). IsColumnOf before.layout bytes reflow there.out r column (got_of after.read r column)) (sym same)
-        (subst (λ (c : ℕ). IsColumnOf before.layout bytes reflow there.out before.row c (got_of after.read before.row c)) (sym also)
-        (subst (IsColumnOf before.layout bytes reflow there.out before.row before.column) (sym reads.column.put.here)
-        (column_got before.layout bytes reflow done here.disk.reads here.out there.out before.row before.column reads.column.given pool
+        subst (λ (r : ℕ). IsColumnOf before.layout bytes reflow there.out wrong r column (got_of after.read r column)) (sym same)
+        (subst (λ (c : ℕ). IsColumnOf before.layout bytes reflow there.out wrong before.row c (got_of after.read before.row c)) (sym also)
+        (subst (IsColumnOf before.layout bytes reflow there.out wrong before.row before.column) (sym reads.column.put.here)
+        (column_got before.layout bytes reflow done here.disk.reads here.out there.out before.row before.column wrong
+        reads.column.given pool
         front right at
         (got_by_step (spot_of before.layout reflow before.row before.column) reads.column.given here there reads.column.read))))
 
     old_got : (row column : ℕ) → IsColumn before.layout row column → IsPassedColumn before row column
         → (row ≡ before.row) ⊎ (row ≢ before.row) → (column ≡ before.column) ⊎ (column ≢ before.column)
-        → IsColumnOf before.layout bytes reflow there.out row column (got_of after.read row column)
+        → IsColumnOf before.layout bytes reflow there.out wrong row column (got_of after.read row column)
     old_got row column is old rows columns =
         let narrow = row_few before.layout row place.is in
         let wide : column < columns_of before.layout = omega (arith, is.column_in, narrow) in
-        subst (IsColumnOf before.layout bytes reflow there.out row column)
+        subst (IsColumnOf before.layout bytes reflow there.out wrong row column)
         (sym (others row column is.row_in wide
         (λ same also. ⊎_elim (λ low. omega (arith, low, same)) (λ at. omega (arith, at.1, also)) old)))
-        (column_stays before.layout bytes reflow here.out there.out row column (got_of before.read row column)
+        (column_stays before.layout bytes reflow here.out there.out wrong row column (got_of before.read row column)
         (outs_by_step (spot_of before.layout reflow before.row before.column) reads.column.given here there reads.column.read).still
         (so_far.got row column is old))
 
@@ -312,9 +335,9 @@ got_unlost read row column unlost = ap (λ (b : Bool). if b then None else Some 
 got_lost : (read : ColumnsRead) (row column : ℕ) → has_lost read row column ≡ true → got_of read row column ≡ None
 got_lost read row column lost = ap (λ (b : Bool). if b then None else Some (column_at read.rows row column)) lost
 
--- Once all columns were read, what is there of the block is left of these bytes,
+-- Once all columns were read and none may be wrong, what is there of the block is left of these bytes,
 pub read_left_over : (bytes : List ℕ) (reflow : Reflow) (out : ℕ) (run : BlockRead) → IsLayout run.layout
-    → run.row ≡ rows_of run.layout → IsReadSoFar bytes reflow out run
+    → run.row ≡ rows_of run.layout → IsReadSoFar bytes reflow out [] run
     → IsLeftOver run.layout bytes run.read.rows run.read.lost.items
 read_left_over bytes reflow out run is whole so_far = record {
   there = λ row column row_in column_in not_lost. ⊎_elim
@@ -322,8 +345,9 @@ read_left_over bytes reflow out run is whole so_far = record {
       let test : nat_lt column (columns_in run.layout row) ≡ true = grind (arith, nat_tests, inside) in
       let unlost : has_lost run.read row column ≡ false =
       sym (ap (λ (b : Bool). b && has_lost run.read row column) test) ∙ not_lost in
-      subst (IsColumnOf run.layout bytes reflow out row column) (got_unlost run.read row column unlost)
+      (subst (IsColumnOf run.layout bytes reflow out [] row column) (got_unlost run.read row column unlost)
       (so_far.got row column (record { row_in = row_in; column_in = inside }) (inl (omega (arith, row_in, whole)))))
+      (contains_none _))
       (λ (behind : columns_in run.layout row ≤ column).
       (has_bytes (has_lost run.read row column) (column_at run.read.rows row column) zero_sector
       (so_far.missing row column row_in behind column_in)).1
@@ -332,12 +356,13 @@ read_left_over bytes reflow out run is whole so_far = record {
 }
 
 -- and of no row too much is lost.
-pub read_lost_few : (bytes : List ℕ) (reflow : Reflow) (out : ℕ) (run : BlockRead) → IsInPool run.layout reflow
-    → run.row ≡ rows_of run.layout → IsReadSoFar bytes reflow out run → count_of out ≤ run.layout.parity
+pub read_lost_few : (bytes : List ℕ) (reflow : Reflow) (out : ℕ) (wrong : Excepted) (run : BlockRead)
+    → IsInPool run.layout reflow
+    → run.row ≡ rows_of run.layout → IsReadSoFar bytes reflow out wrong run → count_of out ≤ run.layout.parity
     → HasLostFew run.layout run.read
-read_lost_few bytes reflow out run pool whole so_far few = record {
+read_lost_few bytes reflow out wrong run pool whole so_far few = record {
   each = λ row row_in too_few. lost_few_out run.layout reflow out run.read pool few row row_in
-      (λ column inside lost. subst (IsColumnOf run.layout bytes reflow out row column) (got_lost run.read row column lost)
+      (λ column inside lost. subst (IsColumnOf run.layout bytes reflow out wrong row column) (got_lost run.read row column lost)
       (so_far.got row column (record { row_in = row_in; column_in = inside }) (inl (omega (arith, row_in, whole)))))
       too_few;
 }

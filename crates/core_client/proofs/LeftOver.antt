@@ -13,8 +13,9 @@ use Rattle.reconstruct.specs.Rows.{Rows, HoldsContent}
 use Rattle.reconstruct.specs.Lost.{IsLeftOver}
 use Rattle.uberblock_ring.specs.Devices.{has_device}
 use Rattle.uberblock_ring.proofs.DeviceSets.{none_above}
-use Rattle.core_state.specs.Whole.{Cell}
+use Rattle.core_state.specs.Whole.{Cell, Excepted}
 use Rattle.core_client.specs.Pool.{IsInPool, IsRightBlock}
+use Rattle.core_client.specs.BlockTurns.{MayBeWrong}
 use Rattle.core_client.specs.Reading.{spot_of}
 use Rattle.core_client.proofs.Spots.{spot_required}
 
@@ -22,16 +23,17 @@ and_false : (b : Bool) → (b && false) ≡ false
 and_false true = refl
 and_false false = refl
 
--- A column of a block that is right is told where it is read, while the device is in use.
+-- A column of a block that is right is told where it is read, while the device is in use and it may not be wrong there.
 pub told_there : (layout : Layout) (reflow : Reflow) (done : ℕ) (known : Known) (out : ℕ) (bytes : List ℕ) (row column : ℕ)
-    → IsInPool layout reflow → IsFrontIn reflow.state reflow done → IsRightBlock layout bytes reflow done known out
-    → IsColumn layout row column → has_device out (spot_of layout reflow row column).device ≡ false
+    → (wrong : Excepted) → IsInPool layout reflow → IsFrontIn reflow.state reflow done
+    → IsRightBlock layout bytes reflow done known out wrong → IsColumn layout row column
+    → (MayBeWrong layout reflow wrong row column → ⊥) → has_device out (spot_of layout reflow row column).device ≡ false
     → known (spot_of layout reflow row column).device (spot_of layout reflow row column).device_sector ≡ Some (column_bytes layout bytes row column)
-told_there layout reflow done known out bytes row column pool front right there used =
+told_there layout reflow done known out bytes row column wrong pool front right there not_wrong used =
     let cell : Cell = record { sector = sector_of layout row column; row_end = end_of layout row; bytes = column_bytes layout bytes row column } in
     (right.each cell (record { row = row; column = column; there = there; sector = refl; row_end = refl; bytes = refl })).at
     (spot_of layout reflow row column).device (spot_of layout reflow row column).device_sector
-    (spot_required layout reflow done row column pool there front) used (λ listed. absurd (omega (arith, listed.1)))
+    (spot_required layout reflow done row column pool there front) used not_wrong
 
 -- What is missing counts as zeros.
 pub missing_bytes : (layout : Layout) (bytes : List ℕ) (row column : ℕ) → part_of layout row column ≡ Missing

@@ -1,13 +1,14 @@
 -- A block that is written or read one device call at a time.
-use Rattle.std.specs.Prelude.{◌≡◌, ◌⊎◌, ℕ, ◌+◌, ◌<◌, ◌≤◌, List, slice_get, Option, Some, None, true, false}
+use Rattle.std.specs.Prelude.{◌≡◌, ◌⊎◌, ℕ, ◌+◌, ◌<◌, ◌≤◌, List, slice_get, Option, Some, None, Contains, true, false}
 use Rattle.bank_trait.specs.Disk.{Known}
 use Rattle.reflow_mark.specs.declared.reflow.Reflow.{Reflow}
-use Rattle.row_layout.specs.Layout.{Layout, IsLayout, IsColumn, rows_of, columns_of, columns_in}
+use Rattle.row_layout.specs.Layout.{Layout, IsLayout, IsColumn, rows_of, columns_of, columns_in, sector_of}
 use Rattle.shadow_write.specs.declared.write.Write.{Write}
 use Rattle.reconstruct.specs.Columns.{zero_sector, column_bytes}
 use Rattle.reconstruct.specs.Rows.{Rows}
 use Rattle.uberblock_ring.specs.Devices.{has_device}
 use Rattle.core_state.specs.Committing.{Point}
+use Rattle.core_state.specs.Whole.{Excepted}
 use Rattle.core_client.specs.declared.columns_read.ColumnsRead.{ColumnsRead}
 use Rattle.core_client.specs.Reading.{spot_of}
 use Rattle.core_client.specs.Writing.{bytes_of, IsPlanOf}
@@ -76,15 +77,21 @@ pub record ReadsColumn (reflow : Reflow) (before : BlockRead) (here : Point) (af
       before.read here after.read there
   pub on : GoesOneOn before after
 
--- A column is the block's, or was lost with its device.
-abbrev pub IsColumnOf : Layout → List ℕ → Reflow → ℕ → ℕ → ℕ → Option (List ℕ) → Type 0
-IsColumnOf layout bytes reflow out row column None =
+-- The sector of a column may be wrong where its row stands.
+abbrev pub MayBeWrong : Layout → Reflow → Excepted → ℕ → ℕ → Type 0
+MayBeWrong layout reflow wrong row column = Contains wrong (sector_of layout row column,
+    ((spot_of layout reflow row column).device, (spot_of layout reflow row column).device_sector))
+
+-- A column is the block's, unless it may be wrong, or was lost with its device.
+abbrev pub IsColumnOf : Layout → List ℕ → Reflow → ℕ → Excepted → ℕ → ℕ → Option (List ℕ) → Type 0
+IsColumnOf layout bytes reflow out wrong row column None =
     has_device out (spot_of layout reflow row column).device ≡ true
-IsColumnOf layout bytes reflow out row column (Some got) = got ≡ column_bytes layout bytes row column
+IsColumnOf layout bytes reflow out wrong row column (Some got) =
+    (MayBeWrong layout reflow wrong row column → ⊥) → got ≡ column_bytes layout bytes row column
 
 -- What was read so far are columns of a block of these bytes, and all others are zeros.
-pub record IsReadSoFar (bytes : List ℕ) (reflow : Reflow) (out : ℕ) (run : BlockRead) : Type 0 where
+pub record IsReadSoFar (bytes : List ℕ) (reflow : Reflow) (out : ℕ) (wrong : Excepted) (run : BlockRead) : Type 0 where
   pub got : (row column : ℕ) → IsColumn run.layout row column → IsPassedColumn run row column
-      → IsColumnOf run.layout bytes reflow out row column (got_of run.read row column)
+      → IsColumnOf run.layout bytes reflow out wrong row column (got_of run.read row column)
   pub missing : (row column : ℕ) → row < rows_of run.layout → columns_in run.layout row ≤ column
       → column < columns_of run.layout → got_of run.read row column ≡ Some zero_sector

@@ -130,7 +130,7 @@ module _ (setting : Setting) (old new : Disk) (lawful : Lawful old) (leaves : Le
       knows = knows_beyond first later u.knows;
       lawful = now_lawful;
       told = λ d x below used low. leaves.told d x (u.told d x below used low);
-      cells = λ d below used. cells_read here leaves.lost next.excepted old new next d leaves.frames
+      cells = λ d below used. cells_read here leaves.lost old new next d leaves.frames
           (used_works d below) (λ x bytes asks h. absurd (unasked next d x bytes asks h)) (u.cells d below used);
       laid = λ d part below used low. ⊎_elim (λ left. inl left) (λ read. inr (page_read d part below read))
           (u.laid d part below used low);
@@ -138,7 +138,7 @@ module _ (setting : Setting) (old new : Disk) (lawful : Lawful old) (leaves : Le
           (λ was. inr (
             page_frame here leaves.lost old new next d leaves.frames
                 (λ part low. away d (area_sector next.uber.area + part) below) was.0,
-            cells_frame here leaves.lost next.excepted old new next d leaves.frames
+            cells_frame here leaves.lost old new next d leaves.frames
                 (λ x bytes asks h. absurd (unasked next d x bytes asks h)) was.1,
           )) (u.settled d below used);
     }

@@ -49,4 +49,4 @@ pub record MayCommit (begun : Begun) (uber : Uber) (entries : List IndexEntry) (
     pub near : (uber.group ≡ begun.first.uber.group + 1) ⊎ (uber.group ≡ begun.first.uber.group + 2)
     pub told : TellsHead (group_made begun uber entries) point
     pub cells : (device : ℕ) → device < uber.reflow.to → has_device point.out device ≡ false
-        → CellsOn begun.kept.excepted point.disk.reads (group_made begun uber entries) device
+        → CellsOn point.disk.reads (group_made begun uber entries) device

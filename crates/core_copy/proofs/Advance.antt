@@ -78,33 +78,32 @@ same_cells parity before chosen births group entries others map cell old is = re
 }
 
 -- Law: The cells of a group with the chosen reflow are right on each device in use.
-pub advance_cells : (reflow : Reflow) (done : ℕ) (holds : List Hold) (births : List Birth) (next : Kept) (known : Known) (out : ℕ) (excepted : Excepted)
-    (device : ℕ)
-    → IsWidening reflow → IsFrontOf reflow done → IsCommitChoice reflow done holds next.uber.reflow
+pub advance_cells : (reflow : Reflow) (done : ℕ) (holds : List Hold) (births : List Birth) (next : Kept)
+    (known : Known) (out device : ℕ) → IsWidening reflow → IsFrontOf reflow done → IsCommitChoice reflow done holds next.uber.reflow
     → next.uber.births ≡ births_of_commit reflow next.uber.reflow births next.uber.group
     → ((entry : IndexEntry) (content : List ℕ) → KeepsBlock next.entries next.others next.map entry content → entry.birth ≤ next.uber.group)
     → ((cell : Cell) → IsCellOf next.uber.parity births next.entries next.others next.map cell
-    → IsClose reflow cell × RightAt known reflow done out excepted cell)
+    → IsClose reflow cell × RightAt known reflow done out next.excepted cell)
     → has_device out device ≡ false
-    → CellsOn excepted known next device
-advance_cells reflow done holds births next known out excepted device widening front choice births_are old right in_use = record {
+    → CellsOn known next device
+advance_cells reflow done holds births next known out device widening front choice births_are old right in_use = record {
   at = λ x bytes asks not_excepted.
       let cell_is : IsCellOf next.uber.parity births next.entries next.others next.map asks.cell =
       same_cells next.uber.parity reflow next.uber.reflow births next.uber.group next.entries next.others next.map asks.cell old
       (subst (λ (b : List Birth). IsCellOf next.uber.parity b next.entries next.others next.map asks.cell) births_are asks.cell_is) in
       let is = right asks.cell cell_is in
-      (advance_right reflow done holds next.uber.reflow known out excepted asks.cell widening front choice is.0.inside is.1).at device x
-      asks.place in_use not_excepted
+      (advance_right reflow done holds next.uber.reflow known out next.excepted asks.cell widening front choice
+      is.0.inside is.1).at device x asks.place in_use not_excepted
       ∙ ap (λ (b : List ℕ). Some b) asks.bytes_are;
 }
 
 -- Law: Where these cells are certain the group is whole.
-pub advance_whole : (devices : ℕ) (excepted : Excepted) (known : Known) (next : Kept) (image : Image)
+pub advance_whole : (devices : ℕ) (known : Known) (next : Kept) (image : Image)
     → IsIndexOf next.entries next.map
     → ((d x : ℕ) (bytes : List ℕ) → known d x ≡ Some bytes → image d x ≡ bytes)
-    → ((device : ℕ) → device < devices → has_device next.uber.out device ≡ false → CellsOn excepted known next device)
-    → IsWhole devices excepted image next.uber next.entries next.others next.map
-advance_whole devices excepted known next image index fits cells = record {
+    → ((device : ℕ) → device < devices → has_device next.uber.out device ≡ false → CellsOn known next device)
+    → IsWhole devices next.excepted image next.uber next.entries next.others next.map
+advance_whole devices known next image index fits cells = record {
   index = index;
   right = λ cell device of inside in_use. record {
     at = λ x place not_excepted. ap (λ (b : List ℕ). Some b) (fits device x cell.bytes

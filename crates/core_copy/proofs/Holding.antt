@@ -12,7 +12,7 @@ use Rattle.reflow_mark.specs.Reflow.{Expands, sectors_of}
 use Rattle.shadow_write.specs.Required.{IsAt, IsRequiredPlace}
 use Rattle.reflow_copier.specs.declared.job.Job.{Job}
 use Rattle.reflow_copier.specs.declared.job.Job.TheVariants.{Fill, Drain, Chunk}
-use Rattle.reflow_copier.specs.Jobs.{Spot as JobSpot, job_begin, job_end}
+use Rattle.reflow_copier.specs.Jobs.{Spot as JobSpot, job_begin, job_end, source_of, target_of}
 use Rattle.uberblock_ring.specs.Devices.{IsWithin, has_device}
 use Rattle.uberblock_ring.specs.Uberblock.{Uber}
 use Rattle.uberblock_ring.specs.Valid.{IsRightUber}
@@ -33,7 +33,8 @@ use Rattle.core_copy.proofs.Progress.{come_outside, job_ends, job_fails, job_goe
 use Rattle.core_copy.proofs.Progress.{stays_out}
 use Rattle.core_copy.specs.JobRun.{JobRun, JobMayBegin, JobSteps, ReadsSector, WritesSector, begun_run, present_sector}
 use Rattle.core_copy.specs.JobRun.{source_spot, target_spot}
-use Rattle.core_copy.specs.Holding.{GoesOnIn, HoldsJob, IsTrusted}
+use Rattle.core_copy.specs.Closed.{IsClosed, IsExceptedAt}
+use Rattle.core_copy.specs.Holding.{GoesOnIn, HoldsJob, IsReadExcepted}
 use Rattle.core_copy.proofs.Steps.{outs_by_step, present_inside}
 
 -- ---- the run in the pool as it is by now
@@ -175,21 +176,24 @@ given_cell spot (Err why) bytes before cell gave told = absurd gave
 -- Reading the present sector leaves how far the job has come, and what it gives of the cell is the cell.
 read_holds : (reflow : Reflow) (done : ℕ) (run stepped : JobRun) (before after : Point) (excepted : Excepted) (cell : Cell)
     → GoesOnIn reflow done run → run.made < call_count run.reflow run.job → cell.sector < cell.row_end
-    → IsTrusted run excepted → ReadsSector run before stepped after → IsWithin before.out after.out
+    → ReadsSector run before stepped after → IsWithin before.out after.out
     → HoldsJob reflow done run before excepted cell
     → HoldsJob reflow done stepped after excepted cell
-read_holds reflow done run stepped before after excepted cell goes left below trusted reads within holds =
+read_holds reflow done run stepped before after excepted cell goes left below reads within holds =
     let turn = reads.turn in
     let same : present_sector run ≡ job_begin run.job + (run.made + 1) / 2 = omega (arith, turn) in
     subst (λ (r : JobRun). HoldsJob reflow done r after excepted cell) (sym reads.next) (record {
       come = subst (λ (n : ℕ). HasComeTo reflow done run.job n after.disk after.out excepted cell) same
           (stays_come reflow done run.job (present_sector run) before.disk after.disk before.out after.out excepted cell within
           (λ d x place in_use. reads.read.unchanged.reads d x) holds.come);
-      held = λ odd here bytes given. is_cell (here ∙ sym same) bytes given;
+      held = λ odd here none bytes given. is_cell (here ∙ sym same)
+          (λ listed. none (subst (λ (s : ℕ). IsExceptedAt excepted s (source_of run.reflow run.job s)) same listed))
+          bytes given;
     })
   where
-    is_cell : cell.sector ≡ present_sector run → (bytes : List ℕ) → reads.given ≡ Some bytes → bytes ≡ cell.bytes
-    is_cell here bytes given =
+    is_cell : cell.sector ≡ present_sector run → (IsReadExcepted run excepted → ⊥) → (bytes : List ℕ)
+        → reads.given ≡ Some bytes → bytes ≡ cell.bytes
+    is_cell here trusted bytes given =
         let spot = source_spot run in
         given_cell spot reads.read.result bytes before.disk cell
         (subst (λ (g : Option (List ℕ)). HasGiven before.disk.reads spot reads.read.result g) given reads.read.gave)
@@ -211,7 +215,9 @@ failed_out device why before after called =
 write_comes : (reflow : Reflow) (done : ℕ) (run : JobRun) (bytes : List ℕ) (result : Result (Unit {0}) Failed)
     (before after : Point) (excepted : Excepted) (cell : Cell)
     → GoesOnIn reflow done run → run.made < call_count run.reflow run.job → IsClose reflow cell
-    → (cell.sector ≡ present_sector run → bytes ≡ cell.bytes)
+    → (cell.sector ≡ present_sector run
+    → (Contains excepted (cell.sector, ((target_spot run).device, (target_spot run).device_sector)) → ⊥)
+    → bytes ≡ cell.bytes)
     → IsSome (before.disk.reads (target_spot run).device (target_spot run).device_sector)
     → Wrote before.disk after.disk (target_spot run).device (target_spot run).device_sector bytes result
     → Called (target_spot run).device result before after → IsWithin before.out after.out
@@ -221,24 +227,26 @@ write_comes reflow done run bytes (Ok value) before after excepted cell goes lef
     stays_out reflow done run.job (present_sector run + 1) after.disk before.out after.out excepted cell within
     (job_goes_on reflow done run.job (present_sector run) bytes value before.disk after.disk before.out excepted cell _ _
     goes.widening goes.front goes.may_run (present_in reflow done run goes left) close (target_at reflow done run goes)
-    (λ here none. same here) told wrote come)
+    same told wrote come)
 write_comes reflow done run bytes (Err why) before after excepted cell goes left close same told wrote called within come =
     job_fails reflow done run.job (present_sector run) bytes (Err why) before.disk after.disk before.out after.out excepted cell _ _
     goes.widening goes.front goes.may_run (present_in reflow done run goes left) close (target_at reflow done run goes) wrote within
     (failed_out (target_spot run).device why before after called) come
 
-write_holds : (reflow : Reflow) (done : ℕ) (run stepped : JobRun) (before after : Point) (excepted : Excepted) (cell : Cell)
-    → GoesOnIn reflow done run → run.made < call_count run.reflow run.job → Tells before.disk → HasPool reflow before.out before.disk
+write_holds : (reflow : Reflow) (done : ℕ) (run stepped : JobRun) (before after : Point) (excepted : Excepted)
+    (cell : Cell) → IsClosed excepted → GoesOnIn reflow done run → run.made < call_count run.reflow run.job
+    → Tells before.disk → HasPool reflow before.out before.disk
     → IsClose reflow cell → WritesSector run before stepped after → IsWithin before.out after.out
     → HoldsJob reflow done run before excepted cell
     → HoldsJob reflow done stepped after excepted cell
-write_holds reflow done run stepped before after excepted cell goes left tells pool close writes within holds =
+write_holds reflow done run stepped before after excepted cell closed goes left tells pool close writes
+    within holds =
     let turn = writes.turn in
     let past : present_sector run + 1 ≡ job_begin run.job + (run.made + 1) / 2 = omega (arith, turn) in
     subst (λ (r : JobRun). HoldsJob reflow done r after excepted cell) (sym writes.next) (record {
       come = subst (λ (n : ℕ). HasComeTo reflow done run.job n after.disk after.out excepted cell) past
           (write_comes reflow done run writes.bytes writes.written.result before after excepted cell goes left close
-          (λ here. holds.held turn here writes.bytes writes.held) told writes.written.wrote writes.written.called within holds.come);
+          (λ here none. holds.held turn here (not_read here none) writes.bytes writes.held) told writes.written.wrote writes.written.called within holds.come);
       held = λ odd. absurd (omega (arith, odd, turn));
     })
   where
@@ -249,17 +257,31 @@ write_holds reflow done run stepped before after excepted cell goes left tells p
     told : IsSome (before.disk.reads (target_spot run).device (target_spot run).device_sector)
     told = tells _ _ (pool.devices _ on.0 writes.written.called.in_use) (omega (arith, on.1, pool.sectors))
 
+    -- Where the sector may not be wrong at the target, it may not be at the source.
+    not_read : cell.sector ≡ present_sector run
+        → (Contains excepted (cell.sector, ((target_spot run).device, (target_spot run).device_sector)) → ⊥)
+        → IsReadExcepted run excepted → ⊥
+    not_read here none listed =
+        let same = same_targets run.reflow done run.job (present_sector run) reflow goes.moves in
+        none (subst (λ (s : ℕ). Contains excepted (s, ((target_spot run).device, (target_spot run).device_sector)))
+        (sym here)
+        (subst (IsExceptedAt excepted (present_sector run)) same.2
+        (closed.copied reflow run.job (present_sector run) goes.widening (present_in reflow done run goes left)
+        (subst (IsExceptedAt excepted (present_sector run)) (sym same.1) listed))))
+
 -- Law: A step keeps what a run holds of each cell, whether its call comes off or not.
-pub run_steps : (reflow : Reflow) (done : ℕ) (run stepped : JobRun) (before after : Point) (excepted : Excepted) (cell : Cell)
-    → GoesOnIn reflow done run → run.made < call_count run.reflow run.job → Tells before.disk → HasPool reflow before.out before.disk
-    → IsClose reflow cell → cell.sector < cell.row_end → IsTrusted run excepted → JobSteps run before stepped after
+pub run_steps : (reflow : Reflow) (done : ℕ) (run stepped : JobRun) (before after : Point) (excepted : Excepted)
+    (cell : Cell) → IsClosed excepted → GoesOnIn reflow done run → run.made < call_count run.reflow run.job
+    → Tells before.disk → HasPool reflow before.out before.disk
+    → IsClose reflow cell → cell.sector < cell.row_end → JobSteps run before stepped after
     → HoldsJob reflow done run before excepted cell
     → HoldsJob reflow done stepped after excepted cell
-run_steps reflow done run stepped before after excepted cell goes left tells pool close below trusted steps holds =
+run_steps reflow done run stepped before after excepted cell closed goes left tells pool close below steps holds =
     let within : IsWithin before.out after.out = (outs_by_step run stepped before after steps).still in
     ⊎_elim
-    (λ reads. read_holds reflow done run stepped before after excepted cell goes left below trusted reads within holds)
-    (λ writes. write_holds reflow done run stepped before after excepted cell goes left tells pool close writes within holds)
+    (λ reads. read_holds reflow done run stepped before after excepted cell goes left below reads within holds)
+    (λ writes. write_holds reflow done run stepped before after excepted cell closed goes left tells pool close
+    writes within holds)
     steps
 
 -- ---- the end, and calls beside it

@@ -16,3 +16,4 @@ pub mod Steps
 pub mod Holding
 pub mod Moving
 pub mod Choosing
+pub mod Closed

@@ -23,7 +23,7 @@ use Rattle.mark_choice.specs.CommitChoice.{IsWiderByOne, births_of_commit, Keeps
 use Rattle.core_copy.specs.Behind.{FollowsOn, front_behind}
 use Rattle.core_state.specs.Map.{Map}
 use Rattle.core_state.specs.Index.{layout_of}
-use Rattle.core_state.specs.Whole.{Cell, IsCell}
+use Rattle.core_state.specs.Whole.{Cell, Excepted, IsCell}
 use Rattle.core_blocks.specs.declared.range.PutRange.{PutRange}
 use Rattle.core_blocks.specs.Blocks.{AreInStep, AreUnderWay, Blocks, IsListed, layout_run}
 use Rattle.core_blocks.specs.Growing.{MayGrow, grown_by}
@@ -300,10 +300,10 @@ module _ (pool : Pool) (uber : Uber) (is : IsPool (record pool { uber = record p
   }
 
   -- and is right there.
-  pub answered_block : (layout : Layout) (content : List ℕ) (known : Known) (out : ℕ) → IsInPool layout pool.uber.reflow
-      → IsRightBlock layout content pool.uber.reflow pool.done known out
-      → IsRightBlock layout content uber.reflow (front_behind pool.uber.reflow pool.done uber.reflow) known out
-  answered_block layout content known out there right = record {
+  pub answered_block : (layout : Layout) (content : List ℕ) (known : Known) (out : ℕ) (wrong : Excepted)
+      → IsInPool layout pool.uber.reflow → IsRightBlock layout content pool.uber.reflow pool.done known out wrong
+      → IsRightBlock layout content uber.reflow (front_behind pool.uber.reflow pool.done uber.reflow) known out wrong
+  answered_block layout content known out wrong there right = record {
     each = λ cell its. record {
       at = λ device device_sector place used excepted. (right.each cell its).at device device_sector
           (follows.behind cell.row_end cell.sector device device_sector (below cell its) place) used excepted;
@@ -317,19 +317,20 @@ module _ (pool : Pool) (uber : Uber) (is : IsPool (record pool { uber = record p
           omega (arith, sector, end, low)
 
   -- The map that the pool holds it holds behind the answer.
-  pub answered_map : (map : Map) (disk : Disk) → HoldsMap map (state_of pool disk)
-      → HoldsMap map (state_of (answered_by uber pool) disk)
-  answered_map map disk holds = record {
+  pub answered_map : {wrong : Excepted} (map : Map) (disk : Disk) → HoldsMap wrong map (state_of pool disk)
+      → HoldsMap wrong map (state_of (answered_by uber pool) disk)
+  answered_map {wrong} map disk holds = record {
     table = subst (λ (table : Table). IsTableOf table.entries map) (sym table_same) holds.table;
     bytes = holds.bytes;
     right = λ entry content listed has. reads entry content (listed_before entry listed) has;
   }
     where
       reads : (entry : IndexEntry) (content : List ℕ) → IsListed pool.blocks.table.entries entry → map entry.id ≡ Some content
-          → ReadsAs uber (front_behind pool.uber.reflow pool.done uber.reflow) entry content disk.reads pool.out
+          → ReadsAs uber (front_behind pool.uber.reflow pool.done uber.reflow) entry content disk.reads pool.out wrong
       reads entry content listed has = subst
-          (λ (layout : Layout). IsRightBlock layout content uber.reflow (front_behind pool.uber.reflow pool.done uber.reflow) disk.reads pool.out)
+          (λ (layout : Layout). IsRightBlock layout content uber.reflow (front_behind pool.uber.reflow pool.done uber.reflow)
+          disk.reads pool.out wrong)
           (sym (answered_layout entry (is.born entry listed)))
-          (answered_block (layout_of pool.uber.parity pool.uber.births entry) content disk.reads pool.out
+          (answered_block (layout_of pool.uber.parity pool.uber.births entry) content disk.reads pool.out wrong
           (listed_in_pool (record pool { uber = record pool.uber { group = uber.group } }) entry is step listed)
           (holds.right entry content listed has))

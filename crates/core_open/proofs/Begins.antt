@@ -146,22 +146,22 @@ module _ (setting : Setting) (first : Kept) (later : List Kept) (uber : Uber) (e
     knows = opened.knows;
     alike = opened.alike;
     kept = kept;
-    excepted = opened.renews.excepted ∙ may.excepted opened.chosen opened.listed;
     shape = may.may.shape ∙ (λ i. record { devices = sym after.devices i; sectors = sym after.sectors i });
     tells = tells_later after may.may.tells;
   }
 
   -- What the group asks for on a device in use is certain, and so it is read.
   cells : (device : ℕ) → device < setting.shape.devices → has_device uber.out device ≡ false
-      → CellsOn next.excepted (certain new) next device
-  cells device inside used = subst (λ (k : Kept). CellsOn k.excepted (certain new) k device)
+      → CellsOn (certain new) next device
+  cells device inside used = subst (λ (k : Kept). CellsOn (certain new) k device)
       (⊎_elim (λ same. same) (λ none. absurd (contains_none opened.known.kept none))
       (contains_cases next [] opened.known.kept opened.known.listed))
       (opened.known.cells device inside used)
 
-  read : (device device_sector : ℕ) (bytes : List ℕ) → Asks next device device_sector bytes
-      → has_device out device ≡ false → new.reads device device_sector ≡ Some bytes
-  read device device_sector bytes asks used =
+  read : (device device_sector : ℕ) (bytes : List ℕ) (asks : Asks next device device_sector bytes)
+      → has_device out device ≡ false
+      → (Contains next.excepted (asks.cell.sector, (device, device_sector)) → ⊥) → new.reads device device_sector ≡ Some bytes
+  read device device_sector bytes asks used right_there =
       let from : uber.reflow.from ≡ next.uber.reflow.from = ap (λ (u : Uber). u.reflow.from) opened.alike in
       let to : uber.reflow.to ≡ next.uber.reflow.to = ap (λ (u : Uber). u.reflow.to) opened.alike in
       let widths = right_widths uber right in
@@ -172,10 +172,10 @@ module _ (setting : Setting) (first : Kept) (later : List Kept) (uber : Uber) (e
       let same = after.devices in
       lawful.stays_read device device_sector bytes
       ((cells device (omega (arith, below, devices, same)) (was_used uber.out out device lists used)).at device_sector bytes asks
-      (λ excepted. contains_none (asks.cell.sector, (device, device_sector))
-      (subst (λ (o : Excepted). Contains o (asks.cell.sector, (device, device_sector))) group.excepted excepted)))
+      right_there)
 
-  holds : HoldsMap next.map state
+  holds : HoldsMap next.excepted next.map state
+  unfolding asks_alike
   holds = record {
     table = index_table blocks.table.entries next.map index
         (subst (λ (l : List IndexEntry). IsIndexOf l next.map) (sym listed_next) opened.knows.sound.indexes);
@@ -193,7 +193,8 @@ module _ (setting : Setting) (first : Kept) (later : List Kept) (uber : Uber) (e
                 has,
               );
               cell_is = cell_is;
-            }) (subst (λ (d : ℕ). IsRequiredPlace uber.reflow d cell.row_end cell.sector device device_sector) stopped place)) used;
+            }) (subst (λ (d : ℕ). IsRequiredPlace uber.reflow d cell.row_end cell.sector device device_sector) stopped place)) used
+            excepted;
       };
     };
   }
@@ -213,6 +214,7 @@ module _ (setting : Setting) (first : Kept) (later : List Kept) (uber : Uber) (e
       choice = opened.choice;
     };
     group = group;
+    excepted = opened.renews.excepted ∙ may.excepted opened.chosen opened.listed;
     holds = holds;
   }
 

@@ -11,7 +11,7 @@ use Rattle.uberblock_ring.specs.Devices.{has_device}
 use Rattle.uberblock_ring.specs.Uberblock.{Uber}
 use Rattle.core_state.specs.Map.{Map}
 use Rattle.core_state.specs.Index.{IsIndexOf, layout_of}
-use Rattle.core_state.specs.Whole.{Cell, IsCellOf, KeepsBlock, RightAt}
+use Rattle.core_state.specs.Whole.{Cell, Excepted, IsCellOf, KeepsBlock, RightAt}
 use Rattle.core_state.specs.Keeps.{HasWidthIn, Kept, Setting, IsNextOf}
 use Rattle.core_state.specs.Certain.{CellsOn, IsSound, IsSuccession}
 use Rattle.mark_choice.specs.CommitChoice.{KeepsOrEnds}
@@ -41,7 +41,7 @@ table_indexes entries map index table = record {
 
 module _ (setting : Setting) (last : Kept) (map : Map) (before : State) (is : IsPool before.pool)
     (bank : HasBank before.pool.uber before.pool.out before.disk)
-    (group : HoldsGroup setting last before) (holds : HoldsMap map before) (chosen : Reflow)
+    {wrong : Excepted} (group : HoldsGroup setting last before) (holds : HoldsMap wrong map before) (chosen : Reflow)
     (follows : FollowsOn before.pool.uber.reflow before.pool.done chosen)
     (widths : KeepsOrEnds before.pool.uber.reflow chosen) (step : AreInStep before.pool.blocks)
     (is_ready : IsReady before.pool chosen) where
@@ -52,7 +52,7 @@ module _ (setting : Setting) (last : Kept) (map : Map) (before : State) (is : Is
   entries = before.pool.blocks.table.entries
 
   abbrev next : Kept
-  next = record { uber = uber; entries = entries; others = []; map = map; excepted = [] }
+  next = record { uber = uber; entries = entries; others = []; map = map; excepted = wrong }
 
   abbrev begun : List Kept → Begun
   begun earlier = record {
@@ -139,7 +139,7 @@ module _ (setting : Setting) (last : Kept) (map : Map) (before : State) (is : Is
   -- A cell of the pool's births is one of its sectors, and is read wherever the pool asks for it.
   read_cell : (cell : Cell) → IsCellOf before.pool.uber.parity before.pool.uber.births entries [] map cell
       → (cell.sector < sectors_of before.pool.uber.reflow)
-      × RightAt before.disk.reads before.pool.uber.reflow before.pool.done before.pool.out [] cell
+      × RightAt before.disk.reads before.pool.uber.reflow before.pool.done before.pool.out wrong cell
   read_cell cell of =
       let its = kept_listed next of.entry of.content refl of.keeps in
       let listed = among_listed entries of.entry is_ready.index its.0 in
@@ -151,13 +151,13 @@ module _ (setting : Setting) (last : Kept) (map : Map) (before : State) (is : Is
       (omega (arith, sector, below, end), (holds.right of.entry of.content listed its.1).each cell of.cell_is)
 
   cells : (device : ℕ) → device < chosen.to → has_device before.pool.out device ≡ false
-      → CellsOn [] before.disk.reads next device
+      → CellsOn before.disk.reads next device
   cells device within used = record {
     at = λ device_sector bytes asks excepted.
         let read = read_cell asks.cell (same_cells before.pool.uber.parity before.pool.uber.reflow chosen before.pool.uber.births
         (before.pool.uber.group + 1) entries [] map asks.cell old asks.cell_is) in
         read.1.at device device_sector (follows.stop asks.cell.row_end asks.cell.sector device device_sector read.0 asks.place)
-        used (λ none. absurd (omega (arith, none.1)))
+        used excepted
         ∙ ap (λ (b : List ℕ). Some b) asks.bytes_are;
   }
 

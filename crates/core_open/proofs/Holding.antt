@@ -22,7 +22,7 @@ use Rattle.uberblock_ring.specs.Devices.{has_device, IsWithin}
 use Rattle.uberblock_ring.specs.Uberblock.{Uber}
 use Rattle.core_state.specs.Map.{Map, with_block}
 use Rattle.core_state.specs.Index.{layout_of, block_end, IsEntryOf}
-use Rattle.core_state.specs.Whole.{Cell, IsCell}
+use Rattle.core_state.specs.Whole.{Cell, Excepted, IsCell}
 use Rattle.core_blocks.specs.Blocks.{AreInStep, IsListed, run_of, layout_run}
 use Rattle.core_blocks.specs.Runs.{AreClear}
 use Rattle.core_blocks.proofs.Listed.{put_cases, left_cases, found_id, found_listed}
@@ -45,15 +45,16 @@ listed_in_pool pool entry is step listed =
     (subst (λ (n : ℕ). block_end pool.blocks.parity pool.blocks.births entry ≤ n) is.capacity inside.below)))
 
 -- A block stays right where on devices still in use each of its places reads what it read.
-pub block_stays : (layout : Layout) (content : List ℕ) (reflow : Reflow) (done : ℕ) (known now : Known) (out still : ℕ)
+pub block_stays : (layout : Layout) (content : List ℕ) (reflow : Reflow) (done : ℕ) (known now : Known)
+    (out still : ℕ) (wrong : Excepted)
     → IsWithin out still
     → ((cell : Cell) (device device_sector : ℕ) → IsCell layout content cell
     → IsRequiredPlace reflow done cell.row_end cell.sector device device_sector
     → has_device still device ≡ false → known device device_sector ≡ Some cell.bytes
     → now device device_sector ≡ Some cell.bytes)
-    → IsRightBlock layout content reflow done known out
-    → IsRightBlock layout content reflow done now still
-block_stays layout content reflow done known now out still within same right = record {
+    → IsRightBlock layout content reflow done known out wrong
+    → IsRightBlock layout content reflow done now still wrong
+block_stays layout content reflow done known now out still wrong within same right = record {
   each = λ cell is. record {
     at = λ device device_sector place used excepted. same cell device device_sector is place used
         ((right.each cell is).at device device_sector place (was_used out still device within used) excepted);
@@ -99,25 +100,27 @@ module _ (before after : State) (is : IsPool before.pool) (step : AreInStep befo
       (subst (λ (x : ℕ). IsRequiredPlace reflow done cell.row_end x device device_sector) cell_is.sector place))
 
   -- So another block is read as it was.
-  others_read : (other : IndexEntry) (given : List ℕ) → IsListed before.pool.blocks.table.entries other
-      → ReadsAs before.pool.uber done other given before.disk.reads before.pool.out
-      → ReadsAs after.pool.uber after.pool.done other given after.disk.reads after.pool.out
-  others_read other given listed read = subst (λ (f : Uber × ℕ). ReadsAs f.0 f.1 other given after.disk.reads after.pool.out)
+  others_read : (wrong : Excepted) (other : IndexEntry) (given : List ℕ)
+      → IsListed before.pool.blocks.table.entries other
+      → ReadsAs before.pool.uber done other given before.disk.reads before.pool.out wrong
+      → ReadsAs after.pool.uber after.pool.done other given after.disk.reads after.pool.out wrong
+  others_read wrong other given listed read =
+      subst (λ (f : Uber × ℕ). ReadsAs f.0 f.1 other given after.disk.reads after.pool.out wrong)
       (λ i. (sym uber i, sym front i))
       (block_stays (other_layout other) given reflow done
-      before.disk.reads after.disk.reads before.pool.out after.pool.out within
+      before.disk.reads after.disk.reads before.pool.out after.pool.out wrong within
       (λ cell device device_sector cell_is place used was. touched.reads device device_sector
       (λ written. away other listed cell device device_sector given cell_is place written) ∙ was)
       read)
 
   -- One that is holds its block too.
-  pub put_holds : (map : Map) (entry : IndexEntry) (content : List ℕ)
+  pub put_holds : {wrong : Excepted} (map : Map) (entry : IndexEntry) (content : List ℕ)
       → ChangesOnly before.pool.blocks.table.entries after.pool.blocks.table.entries entry.id (Some entry)
       → IsEntryOf entry content → AreBytes content
-      → ReadsAs before.pool.uber done entry content after.disk.reads after.pool.out
-      → HoldsMap map before
-      → HoldsMap (with_block map (Some entry.id) (Some content)) after
-  put_holds map entry content change entry_is bytes right holds = record {
+      → ReadsAs before.pool.uber done entry content after.disk.reads after.pool.out wrong
+      → HoldsMap wrong map before
+      → HoldsMap wrong (with_block map (Some entry.id) (Some content)) after
+  put_holds {wrong} map entry content change entry_is bytes right holds = record {
     table = record {
       listed = λ other listed. ⊎_elim
           (λ same. (
@@ -139,13 +142,13 @@ module _ (before after : State) (is : IsPool before.pool) (step : AreInStep befo
         (λ apart. holds.bytes id given (sym (with_other map entry.id id (Some content) apart) ∙ has))
         (cases_eq id entry.id);
     right = λ other given listed has. ⊎_elim
-        (λ same. subst (λ (f : Uber × ℕ). ReadsAs f.0 f.1 other given after.disk.reads after.pool.out)
+        (λ same. subst (λ (f : Uber × ℕ). ReadsAs f.0 f.1 other given after.disk.reads after.pool.out wrong)
         (λ i. (sym uber i, sym front i))
-        (subst (λ (e : IndexEntry). ReadsAs before.pool.uber done e given after.disk.reads after.pool.out) (sym same)
-        (subst (λ (b : List ℕ). ReadsAs before.pool.uber done entry b after.disk.reads after.pool.out)
+        (subst (λ (e : IndexEntry). ReadsAs before.pool.uber done e given after.disk.reads after.pool.out wrong) (sym same)
+        (subst (λ (b : List ℕ). ReadsAs before.pool.uber done entry b after.disk.reads after.pool.out wrong)
         (given_is (sym (ap (λ (e : IndexEntry). with_block map (Some entry.id) (Some content) e.id) same
         ∙ with_here map entry.id (Some content)) ∙ has)) right)))
-        (λ old. others_read other given old.0
+        (λ old. others_read wrong other given old.0
         (holds.right other given old.0 (sym (with_other map entry.id other.id (Some content) old.1) ∙ has)))
         (put_cases before.pool.blocks.table.entries after.pool.blocks.table.entries entry other change listed);
   }
@@ -154,12 +157,12 @@ module _ (before after : State) (is : IsPool before.pool) (step : AreInStep befo
       given_is same = cc
 
 -- A free leaves the other blocks.
-pub free_holds : (map : Map) (before after : State) (id : ℕ) → after.pool.uber ≡ before.pool.uber
+pub free_holds : {wrong : Excepted} (map : Map) (before after : State) (id : ℕ) → after.pool.uber ≡ before.pool.uber
     → after.pool.done ≡ before.pool.done → after.pool.out ≡ before.pool.out → after.disk ≡ before.disk
     → ChangesOnly before.pool.blocks.table.entries after.pool.blocks.table.entries id None
-    → HoldsMap map before
-    → HoldsMap (with_block map (Some id) None) after
-free_holds map before after id uber front out disk change holds = record {
+    → HoldsMap wrong map before
+    → HoldsMap wrong (with_block map (Some id) None) after
+free_holds {wrong} map before after id uber front out disk change holds = record {
   table = record {
     listed = λ other listed. let old = left other listed in
         let was = holds.table.listed other old.0 in
@@ -170,9 +173,10 @@ free_holds map before after id uber front out disk change holds = record {
   };
   bytes = λ other given has. holds.bytes other given (sym (with_other map id other None (kept other given has)) ∙ has);
   right = λ other given listed has. let old = left other listed in
-      subst (λ (f : Uber × ℕ). ReadsAs f.0 f.1 other given after.disk.reads after.pool.out) (λ i. (sym uber i, sym front i))
-      (subst (λ (d : Disk). ReadsAs before.pool.uber before.pool.done other given d.reads after.pool.out) (sym disk)
-      (subst (λ (n : ℕ). ReadsAs before.pool.uber before.pool.done other given before.disk.reads n) (sym out)
+      subst (λ (f : Uber × ℕ). ReadsAs f.0 f.1 other given after.disk.reads after.pool.out wrong)
+      (λ i. (sym uber i, sym front i))
+      (subst (λ (d : Disk). ReadsAs before.pool.uber before.pool.done other given d.reads after.pool.out wrong) (sym disk)
+      (subst (λ (n : ℕ). ReadsAs before.pool.uber before.pool.done other given before.disk.reads n wrong) (sym out)
       (holds.right other given old.0 (sym (with_other map id other.id None old.1) ∙ has))));
 }
   where

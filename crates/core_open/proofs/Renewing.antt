@@ -120,7 +120,7 @@ find_number (first ∷ groups) number = ⊎_elim
 
 -- What is known of a group is known of one that renews it.
 cells_renewed : (kept next : Kept) (known : Known) (device : ℕ) → Renews kept next
-    → CellsOn kept.excepted known kept device → CellsOn next.excepted known next device
+    → CellsOn known kept device → CellsOn known next device
 cells_renewed kept next known device renews cells = cells_same next renumbered known device
     (record {
       entries = renews.entries;
@@ -464,7 +464,7 @@ module _ (setting : Setting) (first : Kept) (later : List Kept) (kept : Kept) (u
           };
           indexes = next_indexes;
           cells = λ device inside used. cells_renewed kept next (certain point.disk) device joins.renews
-              (subst (λ (k : Kept). CellsOn k.excepted (certain point.disk) k device) same
+              (subst (λ (k : Kept). CellsOn (certain point.disk) k device) same
               (known.cells device inside (out_before device used)));
           out = is.within;
         }

@@ -8,12 +8,10 @@ use Rattle.core_blocks.specs.Kept.{NoneFree}
 use Rattle.core_open.specs.Holds.{shape_of}
 use Rattle.core_open.specs.Pool.{State}
 
--- The last answered group is certain on the devices, and no sector of its blocks is free. Nothing of it may be
--- wrong, and the bank tells what it holds.
+-- The last answered group is certain on the devices, no sector of its blocks is free, and the bank tells what it holds.
 pub record HoldsGroup (setting : Setting) (last : Kept) (state : State) : Type 0 where
   pub knows : Knows setting last [] state.disk
   pub alike : AreAlike state.pool.uber last.uber
   pub kept : NoneFree state.pool.blocks state.pool.uber.group (blocks_of last)
-  pub excepted : last.excepted ≡ []
   pub shape : setting.shape ≡ shape_of state.disk
   pub tells : Tells state.disk

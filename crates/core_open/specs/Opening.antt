@@ -1,5 +1,5 @@
 -- What a pool begins with, and what an opening keeps that was cut short.
-use Rattle.std.specs.Prelude.{◌≡◌, ℕ, List, ◌∷◌, Contains, Some, ⊤}
+use Rattle.std.specs.Prelude.{◌≡◌, ℕ, List, [], ◌∷◌, Contains, Some, ⊤}
 use Rattle.bank_trait.specs.Disk.{Disk, Unchanged}
 use Rattle.reflow_mark.specs.Reflow.{sectors_of}
 use Rattle.block_record.specs.declared.entry.IndexEntry.{IndexEntry}
@@ -30,12 +30,13 @@ pub record MayBegin (setting : Setting) (first : Kept) (later : List Kept) (disk
   pub bytes : (kept : Kept) (id : ℕ) (content : List ℕ) → Contains (first ∷ later) kept
       → kept.map id ≡ Some content → AreBytes content
 
--- The pool was opened with a group that renews one of these, and holds its map.
+-- The pool was opened with a group that renews one of these, of which nothing may be wrong, and holds its map.
 pub record OpensPool (setting : Setting) (first : Kept) (later : List Kept) (pool : Pool) (silent : ℕ)
     (old new : Disk) : Type 0 where
   pub opened : HasOpened setting first later pool.uber pool.blocks.table.entries silent old new
   pub group : HoldsGroup setting opened.next (state_of pool new)
-  pub holds : HoldsMap opened.next.map (state_of pool new)
+  pub excepted : opened.next.excepted ≡ []
+  pub holds : HoldsMap opened.next.excepted opened.next.map (state_of pool new)
 
 -- So it is where the devices that were silent, and all that are out, may fail.
 pub record IsBegunWith (pool : Pool) (silent : ℕ) (old new : Disk) : Type 0 where

@@ -12,6 +12,7 @@ use Rattle.core_state.specs.Map.{Map}
 use Rattle.core_state.specs.Index.{layout_of, IsEntryOf}
 use Rattle.block_table.specs.Table.{entry_of}
 use Rattle.core_blocks.specs.Blocks.{Blocks, IsListed}
+use Rattle.core_state.specs.Whole.{Excepted}
 use Rattle.core_client.specs.Pool.{IsRightBlock}
 use Rattle.core_state.specs.declared.item.Group.{Group as GroupItem}
 pub use Rattle.core_open.specs.Opens.{HasBank}
@@ -71,16 +72,17 @@ pub record IsTableOf (entries : List IndexEntry) (map : Map) : Type 0 where
   pub every : (id : ℕ) (content : List ℕ) → map id ≡ Some content
       → (entry : IndexEntry) × (entry_of entries id ≡ Some entry)
 
--- The block of an entry has this content, and is read so wherever it has to be right at this front.
-abbrev pub ReadsAs : Uber → ℕ → IndexEntry → List ℕ → Known → ℕ → Type 0
-ReadsAs uber done entry content known out = IsRightBlock (layout_of uber.parity uber.births entry) content
-    uber.reflow done known out
+-- The block of an entry has this content, and is read so wherever it has to be right at this front, but for what may be
+-- wrong.
+abbrev pub ReadsAs : Uber → ℕ → IndexEntry → List ℕ → Known → ℕ → Excepted → Type 0
+ReadsAs uber done entry content known out wrong = IsRightBlock (layout_of uber.parity uber.births entry) content
+    uber.reflow done known out wrong
 
--- Each block of the map is bytes, stands in the table, and is read at each place where it has to be
--- right, on each device that isn't out.
-pub record HoldsMap (map : Map) (state : State) : Type 0 where
+-- Each block of the map is bytes, stands in the table, and is read at each place where it has to be right, on each
+-- device that isn't out, but for what may be wrong.
+pub record HoldsMap (wrong : Excepted) (map : Map) (state : State) : Type 0 where
   pub table : IsTableOf state.pool.blocks.table.entries map
   pub bytes : (id : ℕ) (content : List ℕ) → map id ≡ Some content → AreBytes content
   pub right : (entry : IndexEntry) (content : List ℕ)
       → IsListed state.pool.blocks.table.entries entry → map entry.id ≡ Some content
-      → ReadsAs state.pool.uber state.pool.done entry content state.disk.reads state.pool.out
+      → ReadsAs state.pool.uber state.pool.done entry content state.disk.reads state.pool.out wrong

@@ -111,7 +111,7 @@ alone_fits kept none fits =
     subst (λ (blocks : List IndexEntry). IsFitting kept.uber blocks) (sym (blocks_alone kept none)) fits
 
 -- What an uberblock's own fields ask for, its group asks for.
-pub asks_alike : (uber : Uber) (kept : Kept) (cell : Cell) (device device_sector : ℕ)
+unfoldable pub asks_alike : (uber : Uber) (kept : Kept) (cell : Cell) (device device_sector : ℕ)
     → AreAlike uber kept.uber
     → IsCellOf uber.parity uber.births kept.entries kept.others kept.map cell
     → IsRequiredPlace uber.reflow (front_after_stop uber.reflow) cell.row_end cell.sector device

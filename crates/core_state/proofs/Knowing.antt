@@ -239,24 +239,22 @@ page_frame here lost old new kept device frames away page = record {
   page = page.page;
 }
 
-pub cells_frame : (here : ℕ → ℕ → Type 0) (lost : ℕ → Bool) (excepted : Excepted) (old new : Disk)
-    (kept : Kept) (device : ℕ) → Frames here lost old new
+pub cells_frame : (here : ℕ → ℕ → Type 0) (lost : ℕ → Bool) (old new : Disk) (kept : Kept) (device : ℕ) → Frames here lost old new
     → ((x : ℕ) (bytes : List ℕ) (asks : Asks kept device x bytes) → here device x
-    → Contains excepted (asks.cell.sector, (device, x)))
-    → CellsOn excepted (certain old) kept device
-    → CellsOn excepted (certain new) kept device
-cells_frame here lost excepted old new kept device frames away cells = record {
+    → Contains kept.excepted (asks.cell.sector, (device, x)))
+    → CellsOn (certain old) kept device
+    → CellsOn (certain new) kept device
+cells_frame here lost old new kept device frames away cells = record {
   at = λ x bytes asks not_odd. frames.stays device x bytes
       (λ h. not_odd (away x bytes asks h)) (cells.at x bytes asks not_odd);
 }
 
-pub cells_read : (here : ℕ → ℕ → Type 0) (lost : ℕ → Bool) (excepted : Excepted) (old new : Disk)
-    (kept : Kept) (device : ℕ) → Frames here lost old new → lost device ≡ false
+pub cells_read : (here : ℕ → ℕ → Type 0) (lost : ℕ → Bool) (old new : Disk) (kept : Kept) (device : ℕ) → Frames here lost old new → lost device ≡ false
     → ((x : ℕ) (bytes : List ℕ) (asks : Asks kept device x bytes) → here device x
-    → Contains excepted (asks.cell.sector, (device, x)))
-    → CellsOn excepted old.reads kept device
-    → CellsOn excepted new.reads kept device
-cells_read here lost excepted old new kept device frames works away cells = record {
+    → Contains kept.excepted (asks.cell.sector, (device, x)))
+    → CellsOn old.reads kept device
+    → CellsOn new.reads kept device
+cells_read here lost old new kept device frames works away cells = record {
   at = λ x bytes asks not_odd. frames.reads device x bytes
       (λ h. not_odd (away x bytes asks h)) works (cells.at x bytes asks not_odd);
 }
@@ -286,7 +284,7 @@ certain_frame here lost setting old new groups uber frames away is = record {
   alike = is.alike;
   listing = is.listing;
   indexes = is.indexes;
-  cells = λ device inside in_use. cells_frame here lost is.kept.excepted old new is.kept device frames
+  cells = λ device inside in_use. cells_frame here lost old new is.kept device frames
       (λ x bytes asks h. away is.kept device x bytes is.listed asks h)
       (is.cells device inside in_use);
   out = is.out;

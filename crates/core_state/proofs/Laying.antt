@@ -70,7 +70,7 @@ module _ (setting : Setting) (first : Kept) (later : List Kept) (next : Kept)
         moves.frames spare u.knows;
     lawful = moves.lawful;
     told = λ d x below in_use low. moves.told d x (u.told d x below (moves.used d in_use).0 low);
-    cells = λ d below in_use. cells_read here moves.lost next.excepted before.disk after.disk next d
+    cells = λ d below in_use. cells_read here moves.lost before.disk after.disk next d
         moves.frames (moves.used d in_use).1 (λ x bytes asks h. unasked d x bytes h asks)
         (u.cells d below (moves.used d in_use).0);
     laid = λ d part below in_use low. ⊎_elim (λ left. inl left)
@@ -82,7 +82,7 @@ module _ (setting : Setting) (first : Kept) (later : List Kept) (next : Kept)
         (λ was. ⊎_elim (λ left. inl left)
         (λ away. inr (
           page_frame here moves.lost before.disk after.disk next d moves.frames away was.0,
-          cells_frame here moves.lost next.excepted before.disk after.disk next d moves.frames
+          cells_frame here moves.lost before.disk after.disk next d moves.frames
               (λ x bytes asks h. unasked d x bytes h asks) was.1,
         )) (own_settle d))
         (u.settled d below (moves.used d in_use).0);

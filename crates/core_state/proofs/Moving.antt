@@ -129,8 +129,8 @@ asks_same one other device device_sector bytes same asks =
 -- and where what the one asks for is known, so it is of the other.
 pub cells_same : (one other : Kept) (known : Known) (device : ℕ) → SameGroup one other
     → ((device_sector : ℕ) (bytes : List ℕ) → Asks other device device_sector bytes
-    → CellsOn other.excepted known other device)
-    → CellsOn one.excepted known one device
+    → CellsOn known other device)
+    → CellsOn known one device
 unfolding asks_same
 cells_same one other known device same cells = record {
   at = λ device_sector bytes asks none.

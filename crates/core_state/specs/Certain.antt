@@ -10,7 +10,7 @@ use Rattle.uberblock_ring.specs.Uberblock.{Uber, encoded, slot_of, area_sector}
 use Rattle.uberblock_ring.specs.Valid.{IsRightUber, AreAlike}
 use Rattle.core_state.specs.Index.{IsFitting, IsIndexOf, IsListing}
 use Rattle.core_state.specs.Shown.{Shape, read_devices}
-use Rattle.core_state.specs.Whole.{Excepted, Cell, IsCellOf}
+use Rattle.core_state.specs.Whole.{Cell, IsCellOf}
 use Rattle.core_state.specs.Keeps.{Kept, blocks_of, Setting, IsNextOf, IsNotOutvoted, HasWidthIn, HasDevices}
 use Rattle.core_state.specs.Collision.{MightShow}
 
@@ -29,10 +29,10 @@ pub record Asks (kept : Kept) (device device_sector : ℕ) (bytes : List ℕ) : 
       cell.sector device device_sector
   pub bytes_are : cell.bytes ≡ bytes
 
--- What a group asks for on a device is known.
-pub record CellsOn (excepted : Excepted) (known : Known) (kept : Kept) (device : ℕ) : Type 0 where
+-- What a group asks for on a device is known, but for what may be wrong of it.
+pub record CellsOn (known : Known) (kept : Kept) (device : ℕ) : Type 0 where
   pub at : (device_sector : ℕ) (bytes : List ℕ) (asks : Asks kept device device_sector bytes)
-      → (Contains excepted (asks.cell.sector, (device, device_sector)) → ⊥)
+      → (Contains kept.excepted (asks.cell.sector, (device, device_sector)) → ⊥)
       → known device device_sector ≡ Some bytes
 
 -- pieces end to end
@@ -86,7 +86,7 @@ pub record IsCertain (setting : Setting) (disk : Disk) (groups : List Kept) (ube
     pub listing : IsListing kept.entries kept.others uber.count
     pub indexes : IsIndexOf kept.entries kept.map
     pub cells : (device : ℕ) → device < setting.shape.devices → has_device uber.out device ≡ false
-        → CellsOn kept.excepted (certain disk) kept device
+        → CellsOn (certain disk) kept device
     pub out : IsWithin uber.out setting.failed
 
 -- The groups are a row that an image may keep, and a device of the first has not failed.

@@ -55,7 +55,7 @@ IsLaid next plan point = (device part : ℕ) → device < next.uber.reflow.to
 
 -- Page and blocks of the group are known on a device.
 abbrev pub HasBase : Setting → Known → Kept → ℕ → Type 0
-HasBase setting known next device = PageOn known next device × CellsOn next.excepted known next device
+HasBase setting known next device = PageOn known next device × CellsOn known next device
 
 -- Before an uberblock is made up: the index is written and then the device synced, one by one.
 pub record Unsigned (setting : Setting) (first : Kept) (later : List Kept) (next : Kept)
@@ -64,7 +64,7 @@ pub record Unsigned (setting : Setting) (first : Kept) (later : List Kept) (next
   pub lawful : Lawful point.disk
   pub told : TellsHead next point
   pub cells : (device : ℕ) → device < next.uber.reflow.to → has_device point.out device ≡ false
-      → CellsOn next.excepted point.disk.reads next device
+      → CellsOn point.disk.reads next device
   pub laid : IsLaid next plan point
   pub settled : (device : ℕ) → device < next.uber.reflow.to → has_device point.out device ≡ false
       → Among plan (BaseSync device) ⊎ HasBase setting (certain point.disk) next device

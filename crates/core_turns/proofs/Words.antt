@@ -72,7 +72,7 @@ pub use Rattle.core_state.specs.JobTurns.{MayRun}
 pub use Rattle.core_state.specs.Keeps.{Kept, Setting, blocks_of}
 pub use Rattle.core_state.specs.Map.{Map, with_block}
 pub use Rattle.core_state.specs.Moment.{IsRowOf, KeepsSince}
-pub use Rattle.core_state.specs.Whole.{Cell, IsCell, RightAt}
+pub use Rattle.core_state.specs.Whole.{Cell, Excepted, IsAmong, IsCell, RightAt}
 pub use Rattle.core_state.specs.declared.answer.Answer.{Answer}
 pub use Rattle.core_state.specs.declared.answer.Kind.{Kind}
 pub use Rattle.mark_choice.proofs.Clear.{choice_clear, next_mark_between}
@@ -134,7 +134,7 @@ pub use Rattle.core_blocks.specs.declared.range.PutRange.{PutRange}
 pub use Rattle.core_blocks.specs.declared.refused.PutRefused.{PutRefused}
 pub use Rattle.core_client.proofs.Below.{below_by_write}
 pub use Rattle.core_client.proofs.BlockTurns.{listed_at, read_begun, read_left_over, read_lost_few, read_more}
-pub use Rattle.core_client.proofs.BlockTurns.{read_stays, written_all, written_more, written_none, written_stays}
+pub use Rattle.core_client.proofs.BlockTurns.{read_stays, read_with_more, written_all, written_more, written_none, written_stays}
 pub use Rattle.core_state.proofs.SpotReads.{outs_by_step}
 pub use Rattle.core_state.proofs.Outs.{outs_called, outs_none}
 pub use Rattle.core_client.proofs.Places.{close_to_end, in_pool, one_sector, widths_of}
@@ -151,6 +151,7 @@ pub use Rattle.core_copy.proofs.Choosing.{run_leaves_choice}
 pub use Rattle.core_copy.proofs.Holding.{begun_goes_on, present_in, right_begins, run_begins, run_beside, run_ends}
 pub use Rattle.core_copy.proofs.Holding.{run_stays, run_steps, step_goes_on, target_at}
 pub use Rattle.core_copy.proofs.Moving.{moved_goes_on, moved_holds}
+pub use Rattle.core_copy.specs.Closed.{IsClosed}
 pub use Rattle.core_copy.specs.Holding.{GoesOnIn, HoldsJob}
 pub use Rattle.core_copy.specs.JobRun.{HoldsRead, JobRun, JobSteps, begun_run, present_sector, target_spot}
 pub use Rattle.core_open.proofs.Others.{read_touches}
@@ -190,6 +191,7 @@ pub use Rattle.core_turns.specs.Putting.{IsFilledWith, IsMorePut, IsPutOf, Leave
 pub use Rattle.core_turns.specs.Putting.{WritesTurn, filled_entry, hold_on, refused_turn}
 pub use Rattle.core_turns.specs.Rounds.{BeginsRound, IsRoundOf, StepsCopy}
 pub use Rattle.core_turns.specs.Steps.{turn_with}
+pub use Rattle.core_turns.specs.Damage.{Damage, IsDamage, ListsDamage, undamaged}
 pub use Rattle.core_turns.specs.UnderWay.{AreBeside, AreCallsOf, CommitStands, Copying, GroupsStand, HaveNoneInCommon}
 pub use Rattle.core_turns.specs.UnderWay.{HoldingCall, HoldsCall, IsCallOfCore, LiesInPool, NoCommitStands, PutsSpare}
 pub use Rattle.core_turns.specs.UnderWay.{Putting, Reading, SetsContent, ShareNoSector, Stands, TurnGoesOn, actor_of}

@@ -1,4 +1,5 @@
 pub mod Cores
+pub mod Damage
 pub mod Holds
 pub mod Rows
 pub mod Frames

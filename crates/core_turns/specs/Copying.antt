@@ -12,8 +12,9 @@ use Rattle.uberblock_ring.specs.Devices.{has_device}
 use Rattle.core_state.specs.declared.answer.Answer.{Answer}
 use Rattle.core_state.specs.declared.answer.Answer.TheVariants as answer
 use Rattle.core_state.specs.Committing.{Point, point_of}
-use Rattle.core_state.specs.Whole.{Cell, RightAt}
+use Rattle.core_state.specs.Whole.{Cell, Excepted, RightAt}
 use Rattle.core_copy.specs.Around.{IsClose}
+use Rattle.core_copy.specs.Closed.{IsClosed}
 use Rattle.core_copy.specs.JobRun.{HoldsRead, JobRun, JobSteps, begun_run}
 use Rattle.core_copy.specs.Holding.{GoesOnIn, HoldsJob}
 use Rattle.core_turns.specs.declared.copying.CopyRun.{CopyRun}
@@ -41,11 +42,13 @@ pub record IsJobOf (core : Core) (run : CopyRun) : Type 0 where
   pub read : core.pool.out ≡ 0 → HoldsRead run.job
 
 -- The job goes on in a pool of this reflow and front. While no device is out, it has come to its present sector with
--- each cell that is right at the front: one whose sector is behind that stands at its target.
+-- each cell that is right at the front: one whose sector is behind that stands at its target. So it is whatever may be
+-- wrong, as far as a copy keeps to what is listed.
 pub record CopiesCells (reflow : Reflow) (done : ℕ) (run : JobRun) (point : Point) : Type 0 where
   pub goes : GoesOnIn reflow done run
-  pub each : point.out ≡ 0 → (cell : Cell) → IsClose reflow cell → cell.sector < cell.row_end
-      → RightAt point.disk.reads reflow done point.out [] cell → HoldsJob reflow done run point [] cell
+  pub each : point.out ≡ 0 → (wrong : Excepted) → IsClosed wrong → (cell : Cell) → IsClose reflow cell
+      → cell.sector < cell.row_end → RightAt point.disk.reads reflow done point.out wrong cell
+      → HoldsJob reflow done run point wrong cell
 
 -- Why there is nothing to copy in a first turn.
 abbrev pub IsJobRefused : Core → Answer → Type 0

@@ -1,5 +1,5 @@
 -- Gets and sums, turn by turn.
-use Rattle.std.specs.Prelude.{◌≡◌, ℕ, ◌+◌, ◌^◌, ◌<◌, ◌≤◌, List, length, Some, None, Contains, ⊤, Option}
+use Rattle.std.specs.Prelude.{◌≡◌, ℕ, ◌+◌, ◌^◌, ◌<◌, ◌≤◌, List, length, Some, None, Contains, ⊤, Option, []}
 use Rattle.sha2.specs.Sha256.{sha256}
 use Rattle.width_map.specs.Births.{width_of_birth}
 use Rattle.range_locks.specs.declared.hold.Hold.{Hold}
@@ -33,6 +33,7 @@ use Rattle.core_turns.specs.declared.solving.ToSolve.{ToSolve}
 use Rattle.core_turns.specs.declared.turn.Turn.{Turn}
 use Rattle.core_turns.specs.declared.turn.Turn.TheVariants.{More, Busy, Done}
 use Rattle.core_turns.specs.Core.{Core, CoreState}
+use Rattle.core_state.specs.Whole.{Excepted}
 
 -- the calls that read a block
 abbrev pub IsReadKind : Kind → Type 0
@@ -203,28 +204,28 @@ IsSolvedAs content NotYet = ⊤
 IsSolvedAs content (Bytes bytes) = bytes ≡ content
 IsSolvedAs content Damaged = ⊥
 
--- A read is of a block of these bytes, which is right on the devices in use; what was read so far are its
--- columns, and what was solved is it.
-pub record HoldsGet (content : List ℕ) (state : CoreState) (run : GetRun) : Type 0 where
+-- A read is of a block of these bytes, which is right on the devices in use but for what may be wrong; what was read so
+-- far are its columns, and what was solved is it where nothing may be wrong.
+pub record HoldsGet (wrong : Excepted) (content : List ℕ) (state : CoreState) (run : GetRun) : Type 0 where
   pub right : IsRightBlock run.read.layout content state.core.pool.uber.reflow
-      state.core.pool.done state.disk.reads state.core.pool.out
+      state.core.pool.done state.disk.reads state.core.pool.out wrong
   pub len_is : length content ≡ run.entry.len
   pub are_bytes : AreBytes content
   pub digest_is : sha256 content ≡ run.entry.digest
-  pub so_far : IsReadSoFar content state.core.pool.uber.reflow state.core.pool.out run.read
-  pub solved : (HasTooManyOut state.core → ⊥) → IsSolvedAs content run.solved
+  pub so_far : IsReadSoFar content state.core.pool.uber.reflow state.core.pool.out wrong run.read
+  pub solved : wrong ≡ [] → (HasTooManyOut state.core → ⊥) → IsSolvedAs content run.solved
 
 -- What a read that begins finds in a map: its block, or nothing.
-abbrev pub FindsGet : Map → CoreState → ℕ → Turn GetRun → Type 0
-FindsGet map state id (More run) =
-    (content : List ℕ) × (map id ≡ Some content) × HoldsGet content state run
-FindsGet map state id (Busy by) = ⊤
-FindsGet map state id (Done given) = given ≡ answer.Absent → map id ≡ None
+abbrev pub FindsGet : Excepted → Map → CoreState → ℕ → Turn GetRun → Type 0
+FindsGet wrong map state id (More run) =
+    (content : List ℕ) × (map id ≡ Some content) × HoldsGet wrong content state run
+FindsGet wrong map state id (Busy by) = ⊤
+FindsGet wrong map state id (Done given) = given ≡ answer.Absent → map id ≡ None
 
 -- A read goes on with its block.
-abbrev pub KeepsGet : List ℕ → CoreState → Turn GetRun → Type 0
-KeepsGet content state (More run) = HoldsGet content state run
-KeepsGet content state other = ⊤
+abbrev pub KeepsGet : Excepted → List ℕ → CoreState → Turn GetRun → Type 0
+KeepsGet wrong content state (More run) = HoldsGet wrong content state run
+KeepsGet wrong content state other = ⊤
 
 -- A read is answered by its block, or was cut short.
 abbrev pub TellsGet : List ℕ → GetRun → Turn GetRun → Type 0

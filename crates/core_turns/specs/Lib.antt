@@ -8,4 +8,5 @@ pub mod Committing
 pub mod Copying
 pub mod Rounds
 pub mod Attaching
+pub mod Damage
 pub mod UnderWay

@@ -11,6 +11,7 @@ use Rattle.uberblock_ring.specs.Valid.{AreAlike}
 use Rattle.core_state.specs.Map.{Map}
 use Rattle.core_state.specs.Index.{layout_of}
 use Rattle.core_state.specs.Keeps.{Kept, Setting, blocks_of}
+use Rattle.core_state.specs.Whole.{Excepted}
 use Rattle.core_state.specs.Certain.{Knows}
 use Rattle.core_blocks.specs.declared.range.PutRange.{PutRange}
 use Rattle.core_blocks.specs.Blocks.{AreUnderWay, layout_run, put_run}
@@ -33,6 +34,7 @@ use Rattle.core_turns.specs.Getting.{IsReadKind, IsGetOf, HoldsGet}
 use Rattle.core_turns.specs.Putting.{IsPutOf, HoldsPut}
 use Rattle.core_turns.specs.Committing.{IsCommitOf}
 use Rattle.core_turns.specs.Copying.{CopiesCells, IsJobOf}
+use Rattle.core_turns.specs.Damage.{Damage, IsDamage, ListsDamage}
 
 -- a call under way that holds sectors
 pub data HoldingCall : Type 0 where
@@ -66,10 +68,10 @@ IsCallOfCore core (Copying run) = IsJobOf core run
 
 -- What a call has written or read so far is its block's, of these bytes: those that a put is handed, those that a read
 -- is to find. A job has copied the cells that are right as far as it has come.
-abbrev pub HoldsCall : CoreState → List ℕ → HoldingCall → Type 0
-HoldsCall state content (Putting run) = HoldsPut content state run
-HoldsCall state content (Reading run) = HoldsGet content state run
-HoldsCall state content (Copying run) = CopiesCells state.core.pool.uber.reflow state.core.pool.done run.job
+abbrev pub HoldsCall : Excepted → CoreState → List ℕ → HoldingCall → Type 0
+HoldsCall wrong state content (Putting run) = HoldsPut content state run
+HoldsCall wrong state content (Reading run) = HoldsGet wrong content state run
+HoldsCall wrong state content (Copying run) = CopiesCells state.core.pool.uber.reflow state.core.pool.done run.job
     (point_of state.core.pool.out state.disk)
 
 -- The bytes of one actor's block are these now, and the others' are what they were.
@@ -116,8 +118,8 @@ pub record LiesInPool (core : Core) (kept : Kept) : Type 0 where
   pub inside : (entry : IndexEntry) → Contains (blocks_of kept) entry
       → IsInPool (layout_of core.pool.uber.parity core.pool.uber.births entry) core.pool.uber.reflow
 
--- The group after the last answered one is under way: it has come so far, no sector of its blocks is free or a put's,
--- and nothing of it may be wrong.
+-- The group after the last answered one is under way: it has come so far, and no sector of its blocks is free or a
+-- put's.
 pub record CommitStands (setting : Setting) (last : Kept) (begun : List Kept) (calls : List HoldingCall)
     (run : CommitRun) (state : CoreState) : Type 0 where
   pub next : Kept
@@ -126,7 +128,6 @@ pub record CommitStands (setting : Setting) (last : Kept) (begun : List Kept) (c
   pub come : IsCommitting setting last next run (point_of state.core.pool.out state.disk)
   pub lies : LiesInPool state.core next
   pub kept : NoneFree state.core.pool.blocks state.core.begun (blocks_of next)
-  pub excepted : next.excepted ≡ []
   pub spared : PutsSpare state calls next
 
 -- No commit is under way. One that was cut short was so because too many devices are out, and images may show
@@ -151,19 +152,20 @@ shown_of begun (Some run) = shown_in begun run.stage
 
 -- Between two turns: the last answered group is certain on the devices, and what is known of one that was begun
 -- after it; the map is held; each call under way goes on as it should, with the bytes of its actor's block. No sector
--- of the last group's blocks is free or a put's, and nothing of it may be wrong.
-pub record Stands (setting : Setting) (last : Kept) (begun : List Kept) (map : Map) (contents : ℕ → List ℕ)
-    (calls : List HoldingCall) (commit : Option CommitRun) (state : CoreState) : Type 0 where
+-- of the last group's blocks is free or a put's. What may be wrong is listed, of each group too.
+pub record Stands (setting : Setting) (last : Kept) (begun : List Kept) (map : Map) (damage : Damage)
+    (contents : ℕ → List ℕ) (calls : List HoldingCall) (commit : Option CommitRun) (state : CoreState) : Type 0 where
   pub groups : GroupsStand setting last begun calls commit state
   pub alike : AreAlike state.core.pool.uber last.uber
   pub kept : NoneFree state.core.pool.blocks state.core.pool.uber.group (blocks_of last)
   pub spared : PutsSpare state calls last
-  pub excepted : last.excepted ≡ []
+  pub damage_is : IsDamage damage
+  pub lists : (kept : Kept) → Contains (last ∷ begun) kept → ListsDamage damage kept
   pub shape : setting.shape ≡ shape_of state.disk
   pub tells : Tells state.disk
   pub bank : HasBankOf state.core state.disk
-  pub holds : HoldsMap map (pool_at state)
-  pub each : (call : HoldingCall) → Contains calls call → HoldsCall state (contents (actor_of call)) call
+  pub holds : HoldsMap damage.left map (pool_at state)
+  pub each : (call : HoldingCall) → Contains calls call → HoldsCall damage.listed state (contents (actor_of call)) call
 
 -- What each turn does: the bank goes on, devices go out where they failed, and none is touched but those of the
 -- pool that were in use. The pool reaches to as many devices as before, and has as many data rows.

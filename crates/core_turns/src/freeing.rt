@@ -7,6 +7,7 @@ ghost use Rattle.core_blocks.specs.declared.range.PutRange.{PutRange};
 ghost use Rattle.core_blocks.specs.Blocks.{AreUnderWay};
 ghost use Rattle.core_blocks.specs.Kept.{NoneFree};
 ghost use Rattle.core_open.specs.Pool.{HoldsMap};
+ghost use Rattle.core_state.specs.Whole.{Excepted};
 ghost use Rattle.core_turns.specs.Core.{at_disk, pool_at, HasBankOf};
 ghost use Rattle.core_turns.specs.declared.getting.GetRun.{GetRun};
 ghost use Rattle.core_turns.specs.Getting.{IsGetOf};
@@ -21,8 +22,8 @@ impl Core {
     /// after this is answered, and a read of it that is under way goes on.
     pub fn free(&mut self, id: u64) -> Answer
         ensures frees { FreesBlock self.old self.new id result }
-        ensures holds { (map : Map) (disk : Disk) → HoldsMap map (pool_at (at_disk self.old disk))
-            → HoldsMap (map_after_free map id result) (pool_at (at_disk self.new disk)) }
+        ensures holds { (wrong : Excepted) (map : Map) (disk : Disk) → HoldsMap wrong map (pool_at (at_disk self.old disk))
+            → HoldsMap wrong (map_after_free map id result) (pool_at (at_disk self.new disk)) }
 
         // Reads under way stay so, also of the block that is gone.
         ensures gets { (run : GetRun) → IsGetOf self.old run → IsGetOf self.new run }

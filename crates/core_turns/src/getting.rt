@@ -1,5 +1,5 @@
 // Reads, turn by turn.
-ghost use Rattle.std.specs.Prelude.{◌≡◌, ℕ, List, false, ◌+◌, ◌^◌, ◌<◌, ◌≤◌, ◌↔◌, IfSome, IsTrue, OnErr, OnOk};
+ghost use Rattle.std.specs.Prelude.{◌≡◌, ℕ, List, false, ◌+◌, ◌^◌, ◌<◌, ◌≤◌, ◌↔◌, IfSome, IsTrue, OnErr, OnOk, []};
 ghost use Rattle.bank_trait.specs.Disk.{Disk, Unchanged};
 ghost use Rattle.row_layout.specs.Layout.{rows_of};
 ghost use Rattle.reconstruct.specs.Rows.{sectors_for};
@@ -11,6 +11,7 @@ ghost use Rattle.core_client.specs.BlockTurns.{IsAtColumn};
 ghost use Rattle.core_state.specs.Outs.{OnlyFailedGoOut};
 ghost use Rattle.core_state.specs.Committing.{point_of};
 ghost use Rattle.core_open.specs.Pool.{HoldsMap};
+ghost use Rattle.core_state.specs.Whole.{Excepted};
 ghost use Rattle.core_turns.specs.declared.getting.GetRun.{GetRun as GetRunOf};
 ghost use Rattle.core_turns.specs.Core.{Core as CoreOf, CoreState, IsCore, at_disk, pool_at, HasBankOf};
 ghost use Rattle.core_turns.specs.Getting.{HasLayout, HoldsGet, FindsGet, KeepsGet, TellsGet, IsAlike, IsGetOf};
@@ -113,9 +114,9 @@ impl GetRun {
     pub fn solve(&mut self, alloc: Global) -> Result<(), OutOfMemory>
         requires len { sectors_for self.old.entry.len ≡ self.old.read.layout.sectors }
         ensures ok { OnOk result (SolvesGet self.old self.new) }
-        ensures keeps { OnOk result ((content : List ℕ) (state : CoreState)
+        ensures keeps { OnOk result ((wrong : Excepted) (content : List ℕ) (state : CoreState)
             → self.old.read.row ≡ rows_of self.old.read.layout → IsGetOf state.core self.old
-            → HoldsGet content state self.old → HoldsGet content state self.new) }
+            → HoldsGet wrong content state self.old → HoldsGet wrong content state self.new) }
         ensures of { (core : CoreOf) → IsGetOf core self.old → IsGetOf core self.new }
         ensures err { OnErr result (self.new ≡ self.old) }
     {
@@ -144,9 +145,9 @@ impl Core {
         requires kind { IsReadKind kind }
         ensures begins { BeginsGet self.old self.new actor kind id result }
 
-        // A block that is found is the one of the map.
-        ensures finds { (map : Map) (disk : Disk) → HoldsMap map (pool_at (at_disk self.old disk))
-            → FindsGet map (at_disk self.new disk) id result }
+        // A block that is found is the one of the map, but for what may be wrong.
+        ensures finds { (wrong : Excepted) (map : Map) (disk : Disk) → HoldsMap wrong map (pool_at (at_disk self.old disk))
+            → FindsGet wrong map (at_disk self.new disk) id result }
 
         // Other reads go on.
         ensures others { (run : GetRunOf) → IsGetOf self.old run → IsGetOf self.new run }
@@ -163,9 +164,9 @@ impl Core {
         requires bank { HasBankOf self.old (B.disk bank.old) }
         ensures reads { ReadsTurn (at_disk self.old (B.disk bank.old)) run.old
             (at_disk self.new (B.disk bank.new)) (turn_with run.new result) }
-        ensures keeps { (content : List ℕ)
-            → HoldsGet content (at_disk self.old (B.disk bank.old)) run.old
-            → KeepsGet content (at_disk self.new (B.disk bank.new)) (turn_with run.new result) }
+        ensures keeps { (wrong : Excepted) (content : List ℕ)
+            → HoldsGet wrong content (at_disk self.old (B.disk bank.old)) run.old
+            → KeepsGet wrong content (at_disk self.new (B.disk bank.new)) (turn_with run.new result) }
         ensures of { IsMoreOf self.new (turn_with run.new result) }
         ensures bank { HasBankOf self.new (B.disk bank.new) }
         ensures unchanged { Unchanged (B.disk bank.old) (B.disk bank.new) }
@@ -181,7 +182,7 @@ impl Core {
         requires kind { IsReadKind run.old.kind }
         requires of { IsGetOf self.old run.old }
         ensures ends { EndsGetSo self.old self.new run.old result }
-        ensures tells { (content : List ℕ) (disk : Disk) → HoldsGet content (at_disk self.old disk) run.old
+        ensures tells { (content : List ℕ) (disk : Disk) → HoldsGet [] content (at_disk self.old disk) run.old
             → TellsGet content run.old (Done result) }
     {
         self.release_and_tell(run)

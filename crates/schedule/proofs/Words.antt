@@ -150,6 +150,7 @@ pub use Rattle.core_turns.proofs.put.Turns.{fills_of}
 pub use Rattle.core_turns.proofs.put.Writes.{put_writes_since, put_writes_stands}
 pub use Rattle.core_turns.proofs.state.StandFrames.{LeavesCommit, commit_still, out_leaves, since_read}
 pub use Rattle.core_turns.proofs.state.Writes.{shown_one}
+pub use Rattle.core_turns.specs.Damage.{undamaged}
 pub use Rattle.core_turns.specs.Attaching.{AttachGoesOn, BeginsAttach, BeginsAttachSo, BeginsJoining, EndsAttach}
 pub use Rattle.core_turns.specs.Attaching.{FindsFree, GoOutAndReach, HasNewDevice, HoldsAttach, IsAttachRefused}
 pub use Rattle.core_turns.specs.Attaching.{IsAttachRunOf, IsDeviceRefused, IsMadeAt, IsMoreAttach, IsTooMany, OnlyGoOut}

@@ -15,6 +15,7 @@ use Rattle.core_commit.specs.CommitTurns.{CommitRun}
 use Rattle.client_script.specs.declared.call.ScriptCall.{ScriptCall}
 use Rattle.client_script.specs.Lines.{fill_bytes}
 use Rattle.client_script.specs.Script.{Script, calls_of}
+use Rattle.core_turns.specs.Damage.{undamaged}
 use Rattle.core_turns.specs.declared.attaching.AttachRun.{AttachRun}
 use Rattle.core_turns.specs.declared.rounds.CopyRound.TheVariants.{Rests, Copies, Commits}
 use Rattle.core_turns.specs.Attaching.{HoldsAttach, IsAttachRunOf, attach_commit}
@@ -162,7 +163,7 @@ pub record Runs (world : World) (script : Script) (past : Past) (state : CoreSta
   pub reach : ℕ
   pub recorded : Recorded world past items item last (shown_of begun commit) state.disk
   pub stands : Stands (record world.setting { reach = reach }) last begun
-      (map_of world.handed world.opening items) contents (calls_under_way clients) commit state
+      (map_of world.handed world.opening items) undamaged contents (calls_under_way clients) commit state
   pub theirs : IsTheirs clients commit
   pub each : ClientsAreGoing world script items item begun contents clients
   pub attaches : HoldAttaches (record world.setting { reach = reach }) last begun state.disk clients

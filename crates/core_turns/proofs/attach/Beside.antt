@@ -2,7 +2,7 @@
 use Rattle.core_turns.proofs.Words.{◌≡◌, ℕ, List, Option, Some, refl, arith, Disk, TouchesOnly, read_beside, Map, Kept}
 use Rattle.core_turns.proofs.Words.{Setting, CommitRun, IsOnInUse, sound_paged, ready_keeps, JoinRun, guest_beside}
 use Rattle.core_turns.proofs.Words.{touched_leaves, AttachRun, Reads, Checked, Joins, Signs, Core, CoreState, IsCore}
-use Rattle.core_turns.proofs.Words.{AnswersGroup, IsCommitOf, HoldsAttach, IsAttachRunOf, HoldingCall, Stands}
+use Rattle.core_turns.proofs.Words.{Damage, AnswersGroup, IsCommitOf, HoldsAttach, IsAttachRunOf, HoldingCall, Stands}
 use Rattle.core_turns.proofs.attach.Turns.{rest_records}
 use Rattle.core_turns.proofs.state.StandFrames.{LeavesCommit, commit_still}
 
@@ -42,14 +42,14 @@ attach_at_answer before after commit number run not_yet is of answers was =
 -- ---- what is known of it
 
 -- Its device stays as it is where others touch the pool's devices alone.
-pub attach_beside : {setting : Setting} {last : Kept} {begun : List Kept} {map : Map} {contents : ℕ → List ℕ}
+pub attach_beside : {setting : Setting} {last : Kept} {begun : List Kept} {map : Map} {damage : Damage} {contents : ℕ → List ℕ}
     {calls : List HoldingCall} {commit : Option CommitRun} (before : CoreState) (after : Disk) (run : AttachRun)
     → IsAttachRunOf before.core run → ((join : JoinRun) → run ≡ Joins join → commit ≡ Some join.run)
     → TouchesOnly (IsOnInUse before.core.reach before.core.pool.out) before.disk after
-    → Stands setting last begun map contents calls commit before
+    → Stands setting last begun map damage contents calls commit before
     → HoldsAttach setting last begun before.disk run → HoldsAttach setting last begun after run
-attach_beside {setting} {last} {begun} {map} {contents} {calls} before after (Joins join) of its touched stands holds =
-    let stood : Stands setting last begun map contents calls (Some join.run) before = rw (← its join refl) stands in
+attach_beside {setting} {last} {begun} {map} {damage} {contents} {calls} before after (Joins join) of its touched stands holds =
+    let stood : Stands setting last begun map damage contents calls (Some join.run) before = rw (← its join refl) stands in
     let same : stood.groups.next ≡ holds.0 = cc (stood.groups.begun_is, holds.1) in
     let reach_is : before.core.reach ≡ setting.reach = search (same, arith) in
     let guest = guest_beside holds.0 (sound_paged setting holds.0 (rw same at stood.groups.come.sound)) setting.reach

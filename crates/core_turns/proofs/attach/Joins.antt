@@ -3,7 +3,9 @@ use Rattle.core_turns.proofs.Words.{◌≡◌, ℕ, ◌+◌, ◌<◌, List, [], 
 use Rattle.core_turns.proofs.Words.{IsRightUber, IsWiderByOne, MayRecord, choice_still, Map, Kept, Setting, point_of}
 use Rattle.core_turns.proofs.Words.{CommitRun, IsLaidDown, MayWiden, widened_kept, widened_run, widened_uber}
 use Rattle.core_turns.proofs.Words.{commit_widened, widened_right, Core, HasBankOf, IsCore, at_disk, IsCommitOf}
-use Rattle.core_turns.proofs.Words.{IsHeldAlone, hold_for, CommitStands, HoldingCall, Stands}
+use Rattle.core_turns.proofs.Words.{Damage, ListsDamage, IsHeldAlone, hold_for, CommitStands, HoldingCall, Stands}
+use Rattle.core_turns.proofs.Words.{Contains}
+use Rattle.core_turns.proofs.state.Damage.{lists_made}
 use Rattle.core_turns.proofs.state.Frames.{calls_hold_on}
 
 -- With one device more no sector's standing changes, as where the reflow stays.
@@ -45,14 +47,14 @@ module _ (core : Core) (run : CommitRun) (is : IsCore core) (of : IsCommitOf cor
 
 -- What stands before the first uberblock write stands with the device too, where the bank has it: the group that is
 -- under way is one device wider, and the pool reaches to it.
-pub joined_stands : {setting : Setting} {last next : Kept} {map : Map} {contents : ℕ → List ℕ}
+pub joined_stands : {setting : Setting} {last next : Kept} {map : Map} {damage : Damage} {contents : ℕ → List ℕ}
     {calls : List HoldingCall} (core : Core) (run : CommitRun) (disk : Disk) → IsCore core
     → core.pool.uber.reflow.to ≡ core.pool.uber.reflow.from → IsLaidDown core.pool.out run
     → MayWiden setting last next (point_of core.pool.out disk) → HasBankOf (record core { reach = core.reach + 1 }) disk
-    → Stands setting last (next ∷ []) map contents calls (Some run) (at_disk core disk)
-    → Stands (record setting { reach = setting.reach + 1 }) last (widened_kept next ∷ []) map contents calls
+    → Stands setting last (next ∷ []) map damage contents calls (Some run) (at_disk core disk)
+    → Stands (record setting { reach = setting.reach + 1 }) last (widened_kept next ∷ []) map damage contents calls
     (Some (widened_run run)) (at_disk (record core { reach = core.reach + 1 }) disk)
-joined_stands {setting} {last} {next} {map} {contents} {calls} core run disk is rest laid may bank stands =
+joined_stands {setting} {last} {next} {map} {damage} {contents} {calls} core run disk is rest laid may bank stands =
     let was = stands.groups in
     let its : was.next ≡ next = cc (was.begun_is) in
     let groups : CommitStands (record setting { reach = setting.reach + 1 }) last (widened_kept next ∷ []) calls
@@ -63,7 +65,8 @@ joined_stands {setting} {last} {next} {map} {contents} {calls} core run disk is 
       come = search (commit_widened, rw its at was.come);
       lies = search (rw its at was.lies);
       kept = rw its at was.kept;
-      excepted = rw its at was.excepted;
       spared = rw its at was.spared;
     } in
-    search (calls_hold_on contents calls core (record core { reach = core.reach + 1 }) disk refl stands.each)
+    let lists : (kept : Kept) → Contains (last ∷ widened_kept next ∷ []) kept → ListsDamage damage kept =
+    lists_made damage last next (widened_kept next) refl stands.lists in
+    search (calls_hold_on damage.listed contents calls core (record core { reach = core.reach + 1 }) disk refl stands.each)

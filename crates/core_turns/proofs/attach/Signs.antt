@@ -4,7 +4,7 @@ use Rattle.core_turns.proofs.Words.{Answer, Map, Kept, Setting, Point, point_of,
 use Rattle.core_turns.proofs.Words.{CommitRun, MayWiden, widened_kept, widened_run, committing_knows, goes_on}
 use Rattle.core_turns.proofs.Words.{WhyDropped, JoinRun, JoinSteps, IsJoining, joining_goes_on, Joins, Core, CoreState}
 use Rattle.core_turns.proofs.Words.{HasBankOf, IsCore, at_disk, EndsAttach, GoOutAndReach, HoldsAttach, MayReachOn}
-use Rattle.core_turns.proofs.Words.{OnlyGoOut, StepsJoin, IsCommitOf, HoldingCall, AreCallsOf, Stands, shown_of}
+use Rattle.core_turns.proofs.Words.{Damage, OnlyGoOut, StepsJoin, IsCommitOf, HoldingCall, AreCallsOf, Stands, shown_of}
 use Rattle.core_commit.specs.declared.join_run.JoinStep.TheVariants as step
 use Rattle.core_turns.proofs.attach.Stands.{attaching_stands, is_joining}
 use Rattle.core_turns.proofs.attach.Turns.{join_drops_commit, join_joins_commit, reaching_on}
@@ -19,10 +19,10 @@ join_continues : (old next : JoinRun) (before after : Point) → JoinSteps old b
     → Continues before.disk after.disk
 join_continues old next before after did = grind (arith, goes_on)
 
-module _ {setting : Setting} {last : Kept} {begun : List Kept} {map : Map} {contents : ℕ → List ℕ}
+module _ {setting : Setting} {last : Kept} {begun : List Kept} {map : Map} {damage : Damage} {contents : ℕ → List ℕ}
     {calls : List HoldingCall} {before : CoreState} (join : JoinRun) (after : CoreState) (is : IsCore before.core)
     (may : MayReachOn before.core) (are : AreCallsOf before.core calls)
-    (stands : Stands setting last begun map contents calls (Some join.run) before)
+    (stands : Stands setting last begun map damage contents calls (Some join.run) before)
     (holds : HoldsAttach setting last begun before.disk (Joins join)) where
   abbrev old : Point
   old = point_of before.core.pool.out before.disk
@@ -51,7 +51,7 @@ module _ {setting : Setting} {last : Kept} {begun : List Kept} {map : Map} {cont
   pub join_drops_stands : (run : CommitRun) (because : WhyDropped)
       → StepsJoin before join after (step.Dropped run because)
       → OnlyGoOut before after → IsWithin before.core.pool.out setting.failed
-      → Stands setting last begun map contents calls (Some run) after
+      → Stands setting last begun map damage contents calls (Some run) after
   join_drops_stands run because did core within = commit_moves_stands is within stands after run did.steps.result
       did.steps.steps core (rw core (search join_drops_commit))
 
@@ -72,9 +72,12 @@ module _ {setting : Setting} {last : Kept} {begun : List Kept} {map : Map} {cont
     widens : MayWiden setting last stands.groups.next old
     widens = search (rw did.steps.synced at its.guest)
 
-    stood : Stands wider last (widened_kept stands.groups.next ∷ []) map contents calls
+    stood : Stands wider last (widened_kept stands.groups.next ∷ []) map damage contents calls
         (Some (widened_run join.run)) (at_disk (reaching_on before.core) before.disk)
-    stood = search (joined_stands, widens)
+    stood =
+        let alone : Stands setting last (stands.groups.next ∷ []) map damage contents calls (Some join.run) before =
+        rw stands.groups.begun_is at stands in
+        search (joined_stands, widens)
 
     its_core : IsCore (reaching_on before.core)
     its_core = search joined_core
@@ -83,7 +86,7 @@ module _ {setting : Setting} {last : Kept} {begun : List Kept} {map : Map} {cont
     of = rw core (search join_joins_commit)
 
     pub join_joins_stands : IsWithin before.core.pool.out setting.failed
-        → Stands wider last (widened_kept stands.groups.next ∷ []) map contents calls (Some run) after
+        → Stands wider last (widened_kept stands.groups.next ∷ []) map damage contents calls (Some run) after
     join_joins_stands within =
         commit_moves_stands its_core within stood after run did.steps.result did.steps.steps core of
 
@@ -96,13 +99,13 @@ module _ {setting : Setting} {last : Kept} {begun : List Kept} {map : Map} {cont
 -- ---- its end
 
 -- The group of an attach is the last one, and no commit is under way, nor an attach.
-pub attach_ends_stands : {setting : Setting} {last next : Kept} {map : Map} {contents : ℕ → List ℕ}
+pub attach_ends_stands : {setting : Setting} {last next : Kept} {map : Map} {damage : Damage} {contents : ℕ → List ℕ}
     {calls : List HoldingCall} {before after : CoreState} {run : CommitRun} {because : Option WhyDropped}
     {given : Answer} → IsCore before.core → IsCore after.core → IsCommitOf before.core run
     → EndsAttach before run because after given → AreCallsOf before.core calls
     → IsWithin before.core.pool.out setting.failed
-    → Stands setting last (next ∷ []) map contents calls (Some run) before
-    → Stands setting next [] map contents calls None after
+    → Stands setting last (next ∷ []) map damage contents calls (Some run) before
+    → Stands setting next [] map damage contents calls None after
 attach_ends_stands is now of ends are within stands =
     rw (← ends.core, ← ends.disk) at (attaching_stands ends.answered.core None ends.answered.disk
     (by ends.answered.core (rw ends.core at now)) (commit_ends_stands is of ends.answers are within stands))

@@ -4,7 +4,7 @@ use Rattle.core_turns.proofs.Words.{cases_lt, Disk, Lawful, Unchanged, Reflow, I
 use Rattle.core_turns.proofs.Words.{Point, point_of, Nowhere, OnlyFailedGoOut, CommitRun, JoinStep, JoinRun, IsJoining}
 use Rattle.core_turns.proofs.Words.{joining_goes_on, join_gone, join_spares, Joins, Core, CoreState, IsCore, at_disk}
 use Rattle.core_turns.proofs.Words.{HoldsAttach, MayReachOn, OnlyGoOut, StepsJoin, StopsAttach, IsCommitOf, HoldingCall}
-use Rattle.core_turns.proofs.Words.{AreCallsOf, Stands}
+use Rattle.core_turns.proofs.Words.{Damage, AreCallsOf, Stands, ap, ⊎_elim, ◌≤◌}
 use Rattle.core_commit.specs.declared.join_run.JoinStep.TheVariants as step
 use Rattle.core_turns.proofs.attach.Turns.{join_goes_commit}
 use Rattle.core_turns.proofs.state.Frames.{IsCallOff, IsOff, Leaves, OnlyOut, call_off_nowhere, calls_beside}
@@ -21,19 +21,19 @@ pub attaching_calls : (core : Core) (by : Option ℕ) (calls : List HoldingCall)
 attaching_calls core by calls are =
     calls_beside core core.holds core.begun core.reach core.committing by calls (omega arith) (search) are
 
-module _ {setting : Setting} {last : Kept} {begun : List Kept} {map : Map} {contents : ℕ → List ℕ}
+module _ {setting : Setting} {last : Kept} {begun : List Kept} {map : Map} {damage : Damage} {contents : ℕ → List ℕ}
     {calls : List HoldingCall} {commit : Option CommitRun} where
   pub attaching_stands : (core : Core) (by : Option ℕ) (disk : Disk) → IsCore core
-      → Stands setting last begun map contents calls commit (at_disk core disk)
-      → Stands setting last begun map contents calls commit (at_disk (record core { attaching = by }) disk)
+      → Stands setting last begun map damage contents calls commit (at_disk core disk)
+      → Stands setting last begun map damage contents calls commit (at_disk (record core { attaching = by }) disk)
   attaching_stands core by disk is stands = stands_held core (record core { attaching = by }) disk is refl
       (search keeps_same) (search) (λ call listed. inr (stands.each call listed)) stands
 
   -- A device was read.
   pub look_stands : (before after : CoreState) → IsCore before.core → after.core ≡ before.core
       → Unchanged before.disk after.disk → Lawful after.disk
-      → Stands setting last begun map contents calls commit before
-      → Stands setting last begun map contents calls commit after
+      → Stands setting last begun map damage contents calls commit before
+      → Stands setting last begun map damage contents calls commit after
   look_stands before after is core unchanged lawful stands =
       let only : OnlyOut before.core after.core = search arith in
       let outs : OnlyFailedGoOut (point_of before.core.pool.out before.disk) (point_of after.core.pool.out after.disk) =
@@ -43,8 +43,8 @@ module _ {setting : Setting} {last : Kept} {begun : List Kept} {map : Map} {cont
 
   -- An attach ends before its commit.
   pub stops_stands : (before after : CoreState) → IsCore before.core → StopsAttach before after → Lawful after.disk
-      → Stands setting last begun map contents calls commit before
-      → Stands setting last begun map contents calls commit after
+      → Stands setting last begun map damage contents calls commit before
+      → Stands setting last begun map damage contents calls commit after
   stops_stands before after is stops lawful stands = rw stops.core (search (attaching_stands, look_stands, arith))
 
 -- ---- the first half of its commit
@@ -58,10 +58,10 @@ off_beyond : (reflow : Reflow) (done : ℕ) (layout : Layout) → 0 < reflow.fro
     → IsOff (IsBeyond reflow.to) reflow done layout
 off_beyond reflow done layout some wide = grind arith
 
-module _ {setting : Setting} {last : Kept} {begun : List Kept} {map : Map} {contents : ℕ → List ℕ}
+module _ {setting : Setting} {last : Kept} {begun : List Kept} {map : Map} {damage : Damage} {contents : ℕ → List ℕ}
     {calls : List HoldingCall} {before : CoreState} (join : JoinRun) (is : IsCore before.core)
     (are : AreCallsOf before.core calls) (may : MayReachOn before.core)
-    (stands : Stands setting last begun map contents calls (Some join.run) before)
+    (stands : Stands setting last begun map damage contents calls (Some join.run) before)
     (holds : HoldsAttach setting last begun before.disk (Joins join)) where
   abbrev old : Point
   old = point_of before.core.pool.out before.disk
@@ -81,12 +81,25 @@ module _ {setting : Setting} {last : Kept} {begun : List Kept} {map : Map} {cont
   -- The pool's devices that are in use read what they read, outside of rings and index areas.
   join_leaves : (after : CoreState) (result : JoinStep) → StepsJoin before join after result → OnlyGoOut before after
       → Leaves (IsBeyond reflow.to) before after
-  join_leaves after result did core = search (join_spares, join_gone, cases_lt, arith)
+  join_leaves after result did core =
+      let new = point_of after.core.pool.out after.disk in
+      let spares = join_spares join old result new did.steps in
+      let wide : reflow.to ≤ join.run.uber.reflow.to = search arith in
+      record {
+        parity = ap (λ (c : Core). c.pool.uber.parity) core;
+        births = ap (λ (c : Core). c.pool.uber.births) core;
+        reflow = ap (λ (c : Core). c.pool.uber.reflow) core;
+        done = ap (λ (c : Core). c.pool.done) core;
+        front = is.is.front;
+        within = (join_gone join old result new did.steps).stay;
+        reads = λ device device_sector used region near. spares.reads device device_sector
+            (⊎_elim (λ low. omega (arith, low, wide)) (λ high. absurd (near high)) (cases_lt device reflow.to)) used region;
+      }
 
   -- It goes on.
   pub join_goes_stands : (after : CoreState) (next : JoinRun) → StepsJoin before join after (step.GoesOn next)
       → OnlyGoOut before after → IsWithin before.core.pool.out setting.failed → Lawful after.disk
-      → Stands setting last begun map contents calls (Some next.run) after
+      → Stands setting last begun map damage contents calls (Some next.run) after
       × HoldsAttach setting last begun after.disk (Joins next)
   join_goes_stands after next did core within lawful =
       let new = point_of after.core.pool.out after.disk in

@@ -6,7 +6,7 @@ use Rattle.core_turns.proofs.Words.{IsCommitChoice, MayRecord, front_behind, IsC
 use Rattle.core_turns.proofs.Words.{choice_moves, front_stays_behind, cell_close, job_at_front, job_some, target_free}
 use Rattle.core_turns.proofs.Words.{IsInPool, close_to_end, in_pool, one_sector, widths_of, JobRun, GoesOnIn, HoldsJob}
 use Rattle.core_turns.proofs.Words.{run_beside, moved_goes_on, moved_holds, sector_inside, CopyRun, PutRun, Core}
-use Rattle.core_turns.proofs.Words.{IsCore, hold_for, CopiesCells, IsJobOf, IsPutOf, ShareNoSector}
+use Rattle.core_turns.proofs.Words.{IsCore, hold_for, CopiesCells, IsJobOf, IsPutOf, ShareNoSector, Excepted, IsClosed}
 use Rattle.reflow_mark.specs.declared.reflow.State.TheVariants.{None}
 use Rattle.core_turns.proofs.put.Places.{IsWrittenTo}
 use Rattle.core_turns.proofs.sync.Begins.{change_below}
@@ -102,14 +102,15 @@ cells_behind reflow done run holds chosen point choice held = search (front_stay
     close_before : (cell : Cell) → IsClose chosen cell → IsClose reflow cell
     close_before cell close = search arith
 
-    cells : point.out ≡ 0 → (cell : Cell) → IsClose chosen cell → cell.sector < cell.row_end
-        → RightAt point.disk.reads chosen done point.out [] cell → HoldsJob chosen done run point [] cell
-    cells whole cell close below right = ⊎_elim
+    cells : point.out ≡ 0 → (wrong : Excepted) → IsClosed wrong → (cell : Cell) → IsClose chosen cell
+        → cell.sector < cell.row_end → RightAt point.disk.reads chosen done point.out wrong cell
+        → HoldsJob chosen done run point wrong cell
+    cells whole wrong closed cell close below right = ⊎_elim
         (search (run_beside, on, arith))
         (λ from_it. ⊎_elim
-        (λ within_it. moved_holds reflow done run holds chosen point [] cell held.goes choice
+        (λ within_it. moved_holds reflow done run holds chosen point wrong cell held.goes choice
         (close_before cell close).inside
-        (held.each whole cell (close_before cell close) below (search (still_asked, moves, job_at_front, arith))))
+        (held.each whole wrong closed cell (close_before cell close) below (search (still_asked, moves, job_at_front, arith))))
         (search (run_beside, on, ends, arith)) (cases_lt cell.sector (job_end reflow run.job)))
         (cases_lt cell.sector (job_begin run.job))
 

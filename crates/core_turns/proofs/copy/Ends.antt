@@ -7,7 +7,8 @@ use Rattle.core_turns.proofs.Words.{IsInPool, CommitRun, run_leaves_choice, run_
 use Rattle.core_turns.proofs.Words.{GetRun, PutRun, Core, IsCore, as_begun, at_disk, pool_at, IsCommitOf, hold_for}
 use Rattle.core_turns.proofs.Words.{CopiesCells, EndsJob, IsJobOf, IsGetOf, AsksAlike, IsPutOf, HoldingCall, Putting}
 use Rattle.core_turns.proofs.Words.{Reading, Copying, AreBeside, AreCallsOf, GroupsStand, HaveNoneInCommon, HoldsCall}
-use Rattle.core_turns.proofs.Words.{IsCallOfCore, ShareNoSector, Stands, actor_of, hold_of_call}
+use Rattle.core_turns.proofs.Words.{Damage, IsCallOfCore, ShareNoSector, Stands, actor_of, hold_of_call}
+use Rattle.core_turns.proofs.Words.{Excepted, IsClosed}
 use Rattle.core_turns.proofs.state.Calls.{beside_turn}
 use Rattle.core_turns.proofs.state.Frames.{ends_other, hold_listed}
 use Rattle.core_turns.proofs.read.Stands.{call_loses}
@@ -59,12 +60,13 @@ module _ {core : Core} {run : CopyRun} (is : IsCore core) (of : IsJobOf core run
     call_ended (Copying other) apart held its = absurd apart
 
     -- What a call has written or read is its block's still.
-    call_holds : (disk : Disk) (content : List ℕ) (call : HoldingCall) → HaveNoneInCommon (Copying run) call
-        → IsCallOfCore core call → HoldsCall (at_disk core disk) content call
-        → HoldsCall (at_disk ended disk) content call
-    call_holds disk content (Putting put) apart its held = search (put_holds_moves, put_same, front)
-    call_holds disk content (Reading get) apart its held = search (block_moves, get_same)
-    call_holds disk content (Copying other) apart its held = absurd apart
+    call_holds : (wrong : Excepted) (disk : Disk) (content : List ℕ) (call : HoldingCall)
+        → HaveNoneInCommon (Copying run) call
+        → IsCallOfCore core call → HoldsCall wrong (at_disk core disk) content call
+        → HoldsCall wrong (at_disk ended disk) content call
+    call_holds wrong disk content (Putting put) apart its held = search (put_holds_moves, put_same, front)
+    call_holds wrong disk content (Reading get) apart its held = search (block_moves, get_same)
+    call_holds wrong disk content (Copying other) apart its held = absurd apart
 
     -- ---- a commit
 
@@ -86,18 +88,18 @@ module _ {core : Core} {run : CopyRun} (is : IsCore core) (of : IsJobOf core run
     -- ---- the map
 
     -- Each block is right at the front behind the job, which has copied all of its sectors.
-    map_ended : (map : Map) (disk : Disk) → core.pool.out ≡ 0 → run.job.made ≡ call_count run.job.reflow run.job.job
+    map_ended : (wrong : Excepted) → IsClosed wrong → (map : Map) (disk : Disk) → core.pool.out ≡ 0 → run.job.made ≡ call_count run.job.reflow run.job.job
         → CopiesCells reflow core.pool.done run.job (point_of core.pool.out disk)
-        → HoldsMap map (pool_at (at_disk core disk)) → HoldsMap map (pool_at (at_disk ended disk))
-    map_ended map disk whole all copied held = record {
+        → HoldsMap wrong map (pool_at (at_disk core disk)) → HoldsMap wrong map (pool_at (at_disk ended disk))
+    map_ended wrong closed map disk whole all copied held = record {
       table = held.table;
       bytes = held.bytes;
       right = λ entry content listed has. record {
         each = λ cell cell_is.
             let layout = layout_of core.pool.uber.parity core.pool.uber.births entry in
             let pool = listed_in_pool (as_begun core) entry is.is is.step listed in
-            run_ends reflow core.pool.done run.job (point_of core.pool.out disk) [] cell of.goes all
-            (copied.each whole cell (search cell_close)
+            run_ends reflow core.pool.done run.job (point_of core.pool.out disk) wrong cell of.goes all
+            (copied.each whole wrong closed cell (search cell_close)
             (cell_below layout content cell cell_is) ((held.right entry content listed has).each cell cell_is));
       };
     }
@@ -130,19 +132,19 @@ module _ {old new : Core} {run : CopyRun} {left calls : List HoldingCall} (is : 
   job_ends_commit commit its = search (commit_on, of, arith)
 
   -- and all stands, with each block right at the front that the job leaves.
-  pub job_ends_stands : {setting : Setting} {last : Kept} {begun : List Kept} {map : Map} {contents : ℕ → List ℕ}
+  pub job_ends_stands : {setting : Setting} {last : Kept} {begun : List Kept} {map : Map} {damage : Damage} {contents : ℕ → List ℕ}
       {commit : Option CommitRun} {disk : Disk} → old.pool.out ≡ 0
       → run.job.made ≡ call_count run.job.reflow run.job.job
-      → Stands setting last begun map contents calls commit (at_disk old disk)
-      → Stands setting last begun map contents left commit (at_disk new disk)
-  job_ends_stands {setting} {last} {begun} {map} {contents} {commit} {disk} whole all stands =
-      let held = map_ended is of ends.ends map disk whole all
+      → Stands setting last begun map damage contents calls commit (at_disk old disk)
+      → Stands setting last begun map damage contents left commit (at_disk new disk)
+  job_ends_stands {setting} {last} {begun} {map} {damage} {contents} {commit} {disk} whole all stands =
+      let held = map_ended is of ends.ends damage.left stands.damage_is.closed map disk whole all
       (stands.each (Copying run) (gains_item left calls (Copying run) gains)) stands.holds in
       rw ends.rest (search (groups_ended, stands.spared, call_loses, each_on, arith))
     where
       each_on : (call : HoldingCall) → Contains left call
-          → HoldsCall (at_disk (ended is of ends.ends) disk) (contents (actor_of call)) call
-      each_on call listed = call_holds is of ends.ends disk (contents (actor_of call)) call (beside call listed).apart
+          → HoldsCall damage.listed (at_disk (ended is of ends.ends) disk) (contents (actor_of call)) call
+      each_on call listed = call_holds is of ends.ends damage.listed disk (contents (actor_of call)) call (beside call listed).apart
           (was call listed) (stands.each call (search gains_old))
 
       groups_ended : (commit : Option CommitRun) → GroupsStand setting last begun calls commit (at_disk old disk)
@@ -155,6 +157,5 @@ module _ {old new : Core} {run : CopyRun} {left calls : List HoldingCall} (is : 
         come = groups.come;
         lies = search;
         kept = groups.kept;
-        excepted = groups.excepted;
         spared = λ put listed. groups.spared put (call_loses gains put listed);
       }

@@ -1,8 +1,8 @@
 -- What a job that is under way has copied, over what others do.
-use Rattle.core_turns.proofs.Words.{◌≡◌, inr, ⊎_elim, ℕ, ◌<◌, [], true, false, sym, ◌∙◌, arith, cases_lt, Reflow, Job}
+use Rattle.core_turns.proofs.Words.{◌≡◌, inr, ⊎_elim, ℕ, ◌<◌, true, false, sym, ◌∙◌, arith, cases_lt, Reflow, Job}
 use Rattle.core_turns.proofs.Words.{Fill, job_end, has_device, IsWithin, none_in, Point, MayRun, Cell, RightAt}
 use Rattle.core_turns.proofs.Words.{IsDataSector, IsClose, CopiesSector, IsPlaceSoFar, IsTarget, JobRun, HoldsJob}
-use Rattle.core_turns.proofs.Words.{run_beside, run_stays, none_empty, CopiesCells}
+use Rattle.core_turns.proofs.Words.{Excepted, IsClosed, run_beside, run_stays, none_empty, CopiesCells}
 use Rattle.core_turns.proofs.put.Places.{required_data, row_below}
 
 -- ---- devices
@@ -39,10 +39,10 @@ module _ (P : ℕ → ℕ → Type 0) (reflow : Reflow) (done : ℕ) (run : JobR
     (reads : (device device_sector : ℕ) → has_device after.out device ≡ false → IsDataSector device_sector
     → (P device device_sector → ⊥) → after.disk.reads device device_sector ≡ before.disk.reads device device_sector)
     (off : IsJobOff P reflow done run) (holds : CopiesCells reflow done run before) where
-  module _ (whole : after.out ≡ 0) (cell : Cell) (close : IsClose reflow cell) (below : cell.sector < cell.row_end)
-      (right : RightAt after.disk.reads reflow done after.out [] cell) where
+  module _ (whole : after.out ≡ 0) (wrong : Excepted) (closed : IsClosed wrong) (cell : Cell) (close : IsClose reflow cell)
+      (below : cell.sector < cell.row_end) (right : RightAt after.disk.reads reflow done after.out wrong cell) where
     -- A sector that the job copies was right before,
-    was_right : CopiesSector reflow run.job cell.sector → RightAt before.disk.reads reflow done before.out [] cell
+    was_right : CopiesSector reflow run.job cell.sector → RightAt before.disk.reads reflow done before.out wrong cell
     was_right inside = record {
       at = λ device device_sector place used kept.
           sym (reads device device_sector (all_used after.out device whole) (search required_data) (search arith))
@@ -50,13 +50,13 @@ module _ (P : ℕ → ℕ → Type 0) (reflow : Reflow) (done : ℕ) (run : JobR
     }
 
     -- so it is copied still;
-    inside_stays : CopiesSector reflow run.job cell.sector → HoldsJob reflow done run after [] cell
-    inside_stays inside = run_stays reflow done run before after [] cell within
+    inside_stays : CopiesSector reflow run.job cell.sector → HoldsJob reflow done run after wrong cell
+    inside_stays inside = run_stays reflow done run before after wrong cell within
         (λ device device_sector place used. reads device device_sector used (⊎_elim (search required_data)
         (search (target_data, arith)) place) (search arith)) (search (none_before, was_right, arith))
 
     -- of another no more is asked.
-    cell_stays : HoldsJob reflow done run after [] cell
+    cell_stays : HoldsJob reflow done run after wrong cell
     cell_stays = search (run_beside, holds.goes, inside_stays, cases_lt, arith)
 
   -- A job has come as far as before where nothing was touched that it relies on.

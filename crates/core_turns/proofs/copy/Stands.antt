@@ -11,7 +11,7 @@ use Rattle.core_turns.proofs.Words.{sound_paged, begun_run, present_sector, Hold
 use Rattle.core_turns.proofs.Words.{step_goes_on, target_at, listed_in_pool, CopyRun, Core, CoreState, IsCore, as_begun}
 use Rattle.core_turns.proofs.Words.{at_disk, HasBankOf, BeginsJobSo, CopiesCells, DropsJob, IsJobOf, StepsJob}
 use Rattle.core_turns.proofs.Words.{HoldingCall, Putting, Reading, Copying, AreBeside, AreCallsOf, CommitStands}
-use Rattle.core_turns.proofs.Words.{HoldsCall, IsCallOfCore, Stands, shown_of}
+use Rattle.core_turns.proofs.Words.{Damage, Excepted, HoldsCall, IsCallOfCore, Stands, shown_of}
 use Rattle.reflow_mark.specs.declared.reflow.State.TheVariants.{None as Unmoved}
 use Rattle.uberblock_ring.specs.Devices.{count_of}
 use Rattle.core_commit.specs.declared.commit_run.Stage.TheVariants.{Signs}
@@ -54,30 +54,31 @@ job_drops_alone {old} {new} {run} is drops of hold exclusive =
 
 -- ---- what stands
 
-module _ {setting : Setting} {last : Kept} {begun : List Kept} {map : Map} {contents : ℕ → List ℕ}
+module _ {setting : Setting} {last : Kept} {begun : List Kept} {map : Map} {damage : Damage} {contents : ℕ → List ℕ}
     {commit : Option CommitRun} where
   -- A job begins: it has copied nothing.
   pub job_begins_stands : {old new : Core} {disk : Disk} {run : CopyRun} {left calls : List HoldingCall} (actor : ℕ)
       → IsCore old → BeginsJobSo old new actor run → Gains left calls (Copying run)
-      → Stands setting last begun map contents left commit (at_disk old disk)
-      → Stands setting last begun map contents calls commit (at_disk new disk)
+      → Stands setting last begun map damage contents left commit (at_disk old disk)
+      → Stands setting last begun map damage contents calls commit (at_disk new disk)
   job_begins_stands {old} {new} {disk} {run} {left} {calls} actor is begins gains stands =
       stands_held old new disk is (cc) (job_begins_alone begins) (job_adds gains)
       (each_gained gains (inl copies) (λ call was. inr (stands.each call was))) stands
     where
-      begins_cell : (cell : Cell) → RightAt disk.reads new.pool.uber.reflow new.pool.done new.pool.out [] cell
+      begins_cell : (wrong : Excepted) (cell : Cell)
+          → RightAt disk.reads new.pool.uber.reflow new.pool.done new.pool.out wrong cell
           → HoldsJob new.pool.uber.reflow new.pool.done (begun_run old.pool.uber.reflow run.job.job)
-          (point_of new.pool.out disk) [] cell
+          (point_of new.pool.out disk) wrong cell
       begins_cell cell right = search (run_begins, arith)
 
-      copies : HoldsCall (at_disk new disk) [] (Copying run)
+      copies : HoldsCall damage.listed (at_disk new disk) [] (Copying run)
       copies = search (begins_cell, arith)
 
   -- A job is given up: the others stand as they did.
   pub job_drops_stands : {old new : Core} {disk : Disk} {run : CopyRun} {left calls : List HoldingCall} → IsCore old
       → DropsJob old new run → IsJobOf old run → Gains left calls (Copying run)
-      → Stands setting last begun map contents calls commit (at_disk old disk)
-      → Stands setting last begun map contents left commit (at_disk new disk)
+      → Stands setting last begun map damage contents calls commit (at_disk old disk)
+      → Stands setting last begun map damage contents left commit (at_disk new disk)
   job_drops_stands {old} {new} {disk} is drops of gains stands =
       stands_held old new disk is (cc) (job_drops_alone is drops of) (call_loses gains)
       (λ call listed. inr (stands.each call (search gains_old))) stands
@@ -135,11 +136,11 @@ module _ {before after : CoreState} {run next : CopyRun} (is : IsCore before.cor
       → CopiesCells reflow done next.job (point_of after.core.pool.out after.disk)
   copies_on tells bank held = record {
     goes = search step_goes_on;
-    each = λ whole cell close below right.
+    each = λ whole wrong closed cell close below right.
         run_steps reflow done run.job next.job (point_of before.core.pool.out before.disk)
-        (point_of after.core.pool.out after.disk) [] cell of.goes some tells
-        (search (bank_has, bank_within, arith)) close below (search contains_none) steps.steps
-        (held.each steps.whole cell close below (record {
+        (point_of after.core.pool.out after.disk) wrong cell closed of.goes some tells
+        (search (bank_has, bank_within, arith)) close below steps.steps
+        (held.each steps.whole wrong closed cell close below (record {
           at = λ device device_sector place used kept.
               sym (touched.reads device device_sector (search (target_free, inside, at_target)))
               ∙ right.at device device_sector place (all_used after.core.pool.out device whole) kept;
@@ -226,13 +227,13 @@ module _ {before after : CoreState} {run next : CopyRun} (is : IsCore before.cor
 
   -- ---- all that stands
 
-  module _ {setting : Setting} {last : Kept} {begun : List Kept} {map : Map} {contents : ℕ → List ℕ}
+  module _ {setting : Setting} {last : Kept} {begun : List Kept} {map : Map} {damage : Damage} {contents : ℕ → List ℕ}
       {commit : Option CommitRun} {left calls : List HoldingCall} (gains : Gains left calls (Copying run))
       (are : AreCallsOf before.core calls)
-      (stands : Stands setting last begun map contents calls commit before) where
+      (stands : Stands setting last begun map damage contents calls commit before) where
     -- A step of a job leaves what stands, and has come one call further.
     pub job_steps_stands : {nexts : List HoldingCall} → Lawful after.disk → Gains left nexts (Copying next)
-        → Stands setting last begun map contents nexts commit after
+        → Stands setting last begun map damage contents nexts commit after
     job_steps_stands still_lawful again =
         writes_stand after touched within lawful few (spare_now setting last begun calls stands.alike) steps.rest
         still_lawful (off_right before after touched within is.is.front table_off)

@@ -3,7 +3,7 @@ use Rattle.core_turns.proofs.Words.{blocks_of}
 use Rattle.core_turns.proofs.Words.{◌≡◌, inr, ℕ, ◌+◌, ◌<◌, List, Option, arith, Disk, IndexEntry, Answer, Map, Kept}
 use Rattle.core_turns.proofs.Words.{Setting, PutRange, AreUnderWay, NoneFree, CommitRun, map_after_free, HoldsMap}
 use Rattle.core_turns.proofs.Words.{freed_holds, none_freed_holds, Core, IsCore, at_disk, pool_at, FreesBlock}
-use Rattle.core_turns.proofs.Words.{HoldingCall, ranges_of, AreCallsOf, Stands}
+use Rattle.core_turns.proofs.Words.{HoldingCall, ranges_of, AreCallsOf, Damage, Excepted, Stands}
 use Rattle.core_state.specs.declared.answer.Answer.TheVariants as answer
 use Rattle.core_turns.proofs.state.Frames.{calls_keep}
 use Rattle.core_turns.proofs.state.Holds.{keeps_same}
@@ -17,28 +17,28 @@ record Freed (old new : Core) (id : ℕ) (given : Answer) : Type 0 where
   rest : new ≡ record old { pool = record old.pool { blocks = new.pool.blocks } }
   parity : new.pool.blocks.parity ≡ old.pool.blocks.parity
   births : new.pool.blocks.births ≡ old.pool.blocks.births
-  holds : (map : Map) (disk : Disk) → HoldsMap map (pool_at (at_disk old disk))
-      → HoldsMap (map_after_free map id given) (pool_at (at_disk new disk))
+  holds : (wrong : Excepted) (map : Map) (disk : Disk) → HoldsMap wrong map (pool_at (at_disk old disk))
+      → HoldsMap wrong (map_after_free map id given) (pool_at (at_disk new disk))
 
 freed : (old new : Core) (id : ℕ) (given : Answer) → FreesBlock old new id given → Freed old new id given
 freed old new id answer.Freed frees = let takes = frees.2 in record {
   rest = takes.rest;
   parity = takes.parity;
   births = takes.births;
-  holds = λ map disk holds. rw takes.rest (freed_holds map old.pool new.pool.blocks disk id takes.change holds);
+  holds = λ wrong map disk holds. rw takes.rest (freed_holds map old.pool new.pool.blocks disk id takes.change holds);
 }
 freed old new id answer.Absent frees = let had = frees.1 in record {
   rest = had.rest;
   parity = had.parity;
   births = had.births;
-  holds = λ map disk holds. rw had.rest (none_freed_holds map old.pool new.pool.blocks disk id had.change had.none
+  holds = λ wrong map disk holds. rw had.rest (none_freed_holds map old.pool new.pool.blocks disk id had.change had.none
       holds);
 }
 freed old new id (answer.TooManyFailed out) frees = let same : new ≡ old = frees.2 in record {
   rest = search arith;
   parity = cc;
   births = cc;
-  holds = λ map disk holds. rw same holds;
+  holds = λ wrong map disk holds. rw same holds;
 }
 freed old new id other frees = absurd frees
 
@@ -55,14 +55,14 @@ frees_calls old new id given calls frees under are =
     (under (ranges_of calls) are.under) are
 
 -- A free leaves what stands, and the map without its block.
-pub frees_stands : {setting : Setting} {last : Kept} {begun : List Kept} {map : Map} {contents : ℕ → List ℕ}
+pub frees_stands : {setting : Setting} {last : Kept} {begun : List Kept} {map : Map} {damage : Damage} {contents : ℕ → List ℕ}
     {calls : List HoldingCall} {commit : Option CommitRun} {old new : Core} {disk : Disk} (id : ℕ) (given : Answer)
     → IsCore old → FreesBlock old new id given
     → ((past : ℕ) (kept : List IndexEntry) → past < old.begun + 1 → NoneFree old.pool.blocks past kept
-    → NoneFree new.pool.blocks past kept) → Stands setting last begun map contents calls commit (at_disk old disk)
-    → Stands setting last begun (map_after_free map id given) contents calls commit (at_disk new disk)
-frees_stands {map = map} {old = old} {new} {disk} id given is frees kept stands =
+    → NoneFree new.pool.blocks past kept) → Stands setting last begun map damage contents calls commit (at_disk old disk)
+    → Stands setting last begun (map_after_free map id given) damage contents calls commit (at_disk new disk)
+frees_stands {map = map} {damage} {old = old} {new} {disk} id given is frees kept stands =
     let left = freed old new id given frees in
     stands_on (calls_none (freed_rearranges left)) (search (keeps_same, arith))
     (λ past group at none spares. (kept past (blocks_of group) (past_below old past is at) none, spares))
-    (left.holds map disk stands.holds) (λ call listed. inr (stands.each call listed)) stands
+    (left.holds damage.left map disk stands.holds) (λ call listed. inr (stands.each call listed)) stands

@@ -1,7 +1,7 @@
 -- A put goes on in a pool whose reflow or front has moved, where that asks for its block at the places at which it did.
 use Rattle.core_turns.proofs.Words.{◌≡◌, ℕ, ◌+◌, ◌≤◌, List, Contains, Disk, Reflow, Layout, Write, Rows, IsFrontOf}
 use Rattle.core_turns.proofs.Words.{IsRangeFor, IsInPool, IsRightBlock, IsPlanOf, PutRun, Core, at_disk, AsksAlike}
-use Rattle.core_turns.proofs.Words.{HoldsPut, IsPutOf, arith}
+use Rattle.core_turns.proofs.Words.{Excepted, HoldsPut, IsPutOf, arith}
 
 -- A plan is one at the places at which the block is asked for now.
 pub plan_moves : {layout : Layout} {reflow other : Reflow} {done front : ℕ} {content : List ℕ} {rows : Rows}
@@ -20,9 +20,9 @@ plan_moves alike pool front_is plan = record {
 }
 
 -- A block is right at the places at which it is asked for now.
-pub block_moves : {layout : Layout} {reflow other : Reflow} {done front : ℕ} {content : List ℕ} (disk : Disk) {out : ℕ}
-    → AsksAlike layout reflow done other front → IsRightBlock layout content reflow done disk.reads out
-    → IsRightBlock layout content other front disk.reads out
+pub block_moves : {layout : Layout} {reflow other : Reflow} {done front : ℕ} {content : List ℕ} (disk : Disk) {out : ℕ} {wrong : Excepted}
+    → AsksAlike layout reflow done other front → IsRightBlock layout content reflow done disk.reads out wrong
+    → IsRightBlock layout content other front disk.reads out wrong
 block_moves disk alike right = record {
   each = λ cell is. record {
     at = λ device device_sector place. (right.each cell is).at device device_sector

@@ -8,7 +8,7 @@ use Rattle.core_turns.proofs.Words.{gains_cases, written_all, written_none, Comm
 use Rattle.core_turns.proofs.Words.{put_holds, entry_layout, Disk, Filled, PutRun, Core, CoreState, IsCore, as_begun}
 use Rattle.core_turns.proofs.Words.{at_disk, pool_at, BeginsPutSo, FillsPut, GivesUp, HoldsPut, IsPutOf, LeavesBlocks}
 use Rattle.core_turns.proofs.Words.{StoresBlock, filled_entry, HoldingCall, Putting, Reading, Copying, AreCallsOf}
-use Rattle.core_turns.proofs.Words.{GroupsStand, HoldsCall, PutsSpare, SetsContent, Stands, actor_of}
+use Rattle.core_turns.proofs.Words.{Damage, Excepted, GroupsStand, HoldsCall, PutsSpare, SetsContent, Stands, actor_of}
 use Rattle.core_turns.proofs.state.Calls.{range_listed}
 use Rattle.core_turns.proofs.state.StandFrames.{LeavesCommit, commit_still, lies_still}
 use Rattle.core_turns.proofs.state.Holds.{KeepsAlone, keeps_ended, keeps_gained, keeps_same}
@@ -47,18 +47,18 @@ pub calls_none : {old new : Core} → Rearranges old new → CallsNone old new
 calls_none change = record { rest = cc; parity = change.parity; births = change.births }
 
 -- All stands still, where what each group keeps of its blocks does, and others' puts have no sector of them.
-pub stands_on : {setting : Setting} {last : Kept} {begun : List Kept} {map other : Map} {contents nows : ℕ → List ℕ}
-    {calls nexts : List HoldingCall} {commit : Option CommitRun} {old new : Core} {disk : Disk} → CallsNone old new
+pub stands_on : {setting : Setting} {last : Kept} {begun : List Kept} {map other : Map} {damage : Damage}
+    {contents nows : ℕ → List ℕ} {calls nexts : List HoldingCall} {commit : Option CommitRun} {old new : Core} {disk : Disk} → CallsNone old new
     → KeepsAlone old.pool.done old.holds new.holds
     → ((past : ℕ) (group : Kept) → IsKeptPast old past → NoneFree old.pool.blocks past (blocks_of group)
     → PutsSpare (at_disk old disk) calls group
     → NoneFree new.pool.blocks past (blocks_of group) × PutsSpare (at_disk old disk) nexts group)
-    → HoldsMap other (pool_at (at_disk new disk))
-    → ((call : HoldingCall) → Contains nexts call → HoldsCall (at_disk new disk) (nows (actor_of call)) call
-    ⊎ HoldsCall (at_disk old disk) (nows (actor_of call)) call)
-    → Stands setting last begun map contents calls commit (at_disk old disk)
-    → Stands setting last begun other nows nexts commit (at_disk new disk)
-stands_on {setting} {last} {begun} {nows = nows} {calls} {nexts} {commit} {old} {new} {disk} change alone keeps held
+    → HoldsMap damage.left other (pool_at (at_disk new disk))
+    → ((call : HoldingCall) → Contains nexts call → HoldsCall damage.listed (at_disk new disk) (nows (actor_of call)) call
+    ⊎ HoldsCall damage.listed (at_disk old disk) (nows (actor_of call)) call)
+    → Stands setting last begun map damage contents calls commit (at_disk old disk)
+    → Stands setting last begun other damage nows nexts commit (at_disk new disk)
+stands_on {setting} {last} {begun} {damage = damage} {nows = nows} {calls} {nexts} {commit} {old} {new} {disk} change alone keeps held
     each stands =
     let last_kept = keeps old.pool.uber.group last (inl refl) stands.kept stands.spared in
     let held_on = rw change.rest at held in
@@ -69,14 +69,14 @@ stands_on {setting} {last} {begun} {nows = nows} {calls} {nexts} {commit} {old} 
     spares_on group spared run listed = rw (change.parity, change.births) (spared run listed)
 
     -- What a call has written or read is its block's.
-    holds_on : (call : HoldingCall) → HoldsCall (at_disk old disk) (nows (actor_of call)) call
-        → HoldsCall (at_disk (rearranged old new) disk) (nows (actor_of call)) call
+    holds_on : (call : HoldingCall) → HoldsCall damage.listed (at_disk old disk) (nows (actor_of call)) call
+        → HoldsCall damage.listed (at_disk (rearranged old new) disk) (nows (actor_of call)) call
     holds_on (Putting run) held = search
     holds_on (Reading run) held = search
     holds_on (Copying run) held = held
 
     each_on : (call : HoldingCall) → Contains nexts call
-        → HoldsCall (at_disk (rearranged old new) disk) (nows (actor_of call)) call
+        → HoldsCall damage.listed (at_disk (rearranged old new) disk) (nows (actor_of call)) call
     each_on call listed = ⊎_elim (λ now. rw change.rest at now) (holds_on call) (each call listed)
 
     groups_on : (commit : Option CommitRun) → GroupsStand setting last begun calls commit (at_disk old disk)
@@ -88,11 +88,11 @@ stands_on {setting} {last} {begun} {nows = nows} {calls} {nexts} {commit} {old} 
         search (commit_still, lies_still, spares_on, arith)
 
 -- So it does where only the calls are others.
-pub stands_with : {setting : Setting} {last : Kept} {begun : List Kept} {map : Map} {contents nows : ℕ → List ℕ}
+pub stands_with : {setting : Setting} {last : Kept} {begun : List Kept} {map : Map} {damage : Damage} {contents nows : ℕ → List ℕ}
     {calls nexts : List HoldingCall} {commit : Option CommitRun} {state : CoreState}
     → ((group : Kept) → PutsSpare state calls group → PutsSpare state nexts group)
-    → ((call : HoldingCall) → Contains nexts call → HoldsCall state (nows (actor_of call)) call)
-    → Stands setting last begun map contents calls commit state → Stands setting last begun map nows nexts commit state
+    → ((call : HoldingCall) → Contains nexts call → HoldsCall damage.listed state (nows (actor_of call)) call)
+    → Stands setting last begun map damage contents calls commit state → Stands setting last begun map damage nows nexts commit state
 stands_with {state = state} spared each stands =
     stands_on {old = state.core} {disk = state.disk} (record { rest = refl; parity = refl; births = refl })
     (search (keeps_same, arith)) (search arith) stands.holds
@@ -101,9 +101,9 @@ stands_with {state = state} spared each stands =
 -- ---- a put
 
 -- The map is held where the table lists the same.
-map_on : (map : Map) (old new : Core) (disk : Disk) → Rearranges old new
-    → new.pool.blocks.table.entries ≡ old.pool.blocks.table.entries → HoldsMap map (pool_at (at_disk old disk))
-    → HoldsMap map (pool_at (at_disk new disk))
+map_on : {wrong : Excepted} (map : Map) (old new : Core) (disk : Disk) → Rearranges old new
+    → new.pool.blocks.table.entries ≡ old.pool.blocks.table.entries → HoldsMap wrong map (pool_at (at_disk old disk))
+    → HoldsMap wrong map (pool_at (at_disk new disk))
 map_on map old new disk change entries held = rw change.rest (record {
   table = search arith;
   bytes = held.bytes;
@@ -134,15 +134,15 @@ next_spares {left} {calls} {nexts} {run} state group filled gains again spared o
     (search (spared, gains_item))) (search (spared, gains_old))
     (gains_cases left nexts (Putting (record run { filled = filled })) (Putting one) again listed)
 
-module _ {setting : Setting} {last : Kept} {begun : List Kept} {map : Map} {contents : ℕ → List ℕ}
+module _ {setting : Setting} {last : Kept} {begun : List Kept} {map : Map} {damage : Damage} {contents : ℕ → List ℕ}
     {commit : Option CommitRun} where
   -- A put begins, beside all others, with its bytes.
   pub put_begins_stands : {nows : ℕ → List ℕ} {left calls : List HoldingCall} {old new : Core} {disk : Disk}
       {actor id len : ℕ} {run : PutRun} {content : List ℕ} → BeginsPutSo old new actor id len run → length content ≡ len
       → AreBytes content → ((call : HoldingCall) → Contains left call → actor_of call ≢ actor)
       → SetsContent contents nows actor content → Gains left calls (Putting run)
-      → Stands setting last begun map contents left commit (at_disk old disk)
-      → Stands setting last begun map nows calls commit (at_disk new disk)
+      → Stands setting last begun map damage contents left commit (at_disk old disk)
+      → Stands setting last begun map damage nows calls commit (at_disk new disk)
   put_begins_stands {nows} {left} {calls} {old} {new} {disk} {actor} {id} {len} {run} begins len_is bytes differs
       sets gains stands =
       let change = begins_rearranges old new actor id len run begins in
@@ -162,8 +162,8 @@ module _ {setting : Setting} {last : Kept} {begun : List Kept} {map : Map} {cont
 
   -- A refusal leaves all calls.
   pub put_refused_stands : {calls : List HoldingCall} {old new : Core} {disk : Disk} → LeavesBlocks old new
-      → Stands setting last begun map contents calls commit (at_disk old disk)
-      → Stands setting last begun map contents calls commit (at_disk new disk)
+      → Stands setting last begun map damage contents calls commit (at_disk old disk)
+      → Stands setting last begun map damage contents calls commit (at_disk new disk)
   put_refused_stands {old = old} {new} leaves stands =
       let change = leaves_rearranges old new leaves in
       stands_on (calls_none change) (search (keeps_same, arith)) (search arith) (search map_on) (search arith) stands
@@ -171,8 +171,8 @@ module _ {setting : Setting} {last : Kept} {begun : List Kept} {map : Map} {cont
   -- A put that is given up leaves the others.
   pub put_gives_up_stands : {left calls : List HoldingCall} {old new : Core} {disk : Disk} {run : PutRun}
       → GivesUp old new run → Gains left calls (Putting run) → AreCallsOf old calls
-      → Stands setting last begun map contents calls commit (at_disk old disk)
-      → Stands setting last begun map contents left commit (at_disk new disk)
+      → Stands setting last begun map damage contents calls commit (at_disk old disk)
+      → Stands setting last begun map damage contents left commit (at_disk new disk)
   put_gives_up_stands {left} {calls} {old} {new} {disk} {run} gives_up gains are stands =
       let change = gives_up_rearranges old new run gives_up in
       stands_on (calls_none change) (search (put_ends_alone, gains_item, are.each, arith))
@@ -184,8 +184,8 @@ module _ {setting : Setting} {last : Kept} {begun : List Kept} {map : Map} {cont
       → StoresBlock old new run
       → (filled : Filled) × (run.filled ≡ Some filled) × (filled.write.next ≡ length filled.write.writes)
       → Gains left calls (Putting run) → AreCallsOf old calls
-      → Stands setting last begun map contents calls commit (at_disk old disk)
-      → Stands setting last begun (with_block map (Some run.range.id) (Some (contents run.hold.actor))) contents left
+      → Stands setting last begun map damage contents calls commit (at_disk old disk)
+      → Stands setting last begun (with_block map (Some run.range.id) (Some (contents run.hold.actor))) damage contents left
       commit (at_disk new disk)
   put_ends_stands {left} {calls} {old} {new} {disk} {run} is ends whole gains are stands =
       stands_on (calls_none (ends_rearranges old new run ends)) (put_ends_alone old new run of ends.ends)
@@ -205,16 +205,17 @@ module _ {setting : Setting} {last : Kept} {begun : List Kept} {map : Map} {cont
       holds = stands.each (Putting run) its_calls
 
       read : ReadsAs (as_begun old).uber old.pool.done (filled_entry run ends.filled) content disk.reads old.pool.out
+          damage.left
       read =
           rw (entry_layout old.pool.uber.parity old.pool.uber.births old.pool.blocks run.range
           (filled_entry run ends.filled) run.len run.range.birth is.is.parity is.is.births of.range refl refl refl)
           (written_all run.range.layout content old.pool.uber.reflow old.pool.done disk.reads old.pool.out
           ends.filled.write (rw (← same_filled (sym whole.1 ∙ ends.filled_is)) whole.2)
-          (holds.so_far ends.filled ends.filled_is).1)
+          (holds.so_far ends.filled ends.filled_is).1 damage.left)
 
-      held : HoldsMap (with_block map (Some run.range.id) (Some content)) (pool_at (at_disk new disk))
+      held : HoldsMap damage.left (with_block map (Some run.range.id) (Some content)) (pool_at (at_disk new disk))
       held =
-          let was : HoldsMap map (state_of (as_begun old) disk) = search in
+          let was : HoldsMap damage.left map (state_of (as_begun old) disk) = search in
           let now = put_holds (state_of (as_begun old) disk)
           (state_of (record (as_begun old) { blocks = new.pool.blocks }) disk) is.is is.step run.range.layout refl refl
           (λ device out. out) of.pool
@@ -227,8 +228,8 @@ module _ {setting : Setting} {last : Kept} {begun : List Kept} {map : Map} {cont
   -- A put whose bytes are filled in holds them, none of them written yet.
   pub put_fills_stands : {left calls nexts : List HoldingCall} {state : CoreState} {run next : PutRun}
       → FillsPut run next (contents run.hold.actor) → Gains left calls (Putting run) → Gains left nexts (Putting next)
-      → AreCallsOf state.core calls → Stands setting last begun map contents calls commit state
-      → Stands setting last begun map contents nexts commit state
+      → AreCallsOf state.core calls → Stands setting last begun map damage contents calls commit state
+      → Stands setting last begun map damage contents nexts commit state
   put_fills_stands {left} {calls} {nexts} {state} {run} {next} fills gains again are stands =
       stands_with (λ group. next_spares state group (Some fills.filled) gains (search arith))
       (each_gained again (rw fills.rest filled) (λ call there. stands.each call (search gains_old))) stands

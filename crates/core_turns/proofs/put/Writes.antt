@@ -9,7 +9,7 @@ use Rattle.core_turns.proofs.Words.{gains_item, OnlyFailedGoOut, IsInPool, liste
 use Rattle.core_turns.proofs.Words.{CommitRun, shown_at, shown_by, sound_paged, listed_in_pool, entry_in_pool, tells_at}
 use Rattle.core_turns.proofs.Words.{PutRun, CoreState, IsCore, as_begun, IsPutOf, HoldsPut, WritesOne, HoldingCall}
 use Rattle.core_turns.proofs.Words.{Putting, Reading, Copying, AreBeside, AreCallsOf, CommitStands, IsCallOfCore}
-use Rattle.core_turns.proofs.Words.{PutsSpare, Stands, shown_of}
+use Rattle.core_turns.proofs.Words.{Damage, PutsSpare, Stands, shown_of}
 use Rattle.core_commit.specs.declared.commit_run.Stage.TheVariants.{Signs}
 use Rattle.core_turns.proofs.put.Places.{IsWrittenTo, AreInPool, never_asked, put_beside_commit, required_data}
 use Rattle.core_turns.proofs.sync.Ends.{layout_same}
@@ -51,9 +51,9 @@ module _ {left calls : List HoldingCall} {before after : CoreState} {run next : 
   few : count_of before.core.pool.out ≤ before.core.pool.uber.parity
   few = search (cases_lt, arith)
 
-  module _ {setting : Setting} {last : Kept} {begun : List Kept} {map : Map} {contents : ℕ → List ℕ}
+  module _ {setting : Setting} {last : Kept} {begun : List Kept} {map : Map} {damage : Damage} {contents : ℕ → List ℕ}
       {commit : Option CommitRun} (are : AreCallsOf before.core calls)
-      (stands : Stands setting last begun map contents calls commit before) where
+      (stands : Stands setting last begun map damage contents calls commit before) where
     its_calls : Contains calls (Putting run)
     its_calls = gains_item left calls (Putting run) gains
 
@@ -182,7 +182,7 @@ module _ {left calls : List HoldingCall} {before after : CoreState} {run next : 
 
     -- A write of a put leaves what stands, and is one more of its block.
     pub put_writes_stands : {nexts : List HoldingCall} → Lawful after.disk → Gains left nexts (Putting next)
-        → Stands setting last begun map contents nexts commit after
+        → Stands setting last begun map damage contents nexts commit after
     put_writes_stands still_lawful again =
         writes_stand after touched outs.still lawful few spare_now writes.rest still_lawful
         (off_right before after touched outs.still is.is.front table_off)

@@ -2,7 +2,7 @@
 use Rattle.core_turns.proofs.Words.{◌≡◌, ◌≢◌, ℕ, ◌≤◌, List, Option, false, ◌∙◌, arith, Contains, Unchanged, TouchesOnly}
 use Rattle.core_turns.proofs.Words.{Hold, EndsHold, Reflow, Layout, IsRequiredPlace, IsFrontOf, IndexEntry, has_device}
 use Rattle.core_turns.proofs.Words.{IsWithin, layout_of, Cell, IsCell, Nowhere, IsDataSector, AreUnderWay, IsListed}
-use Rattle.core_turns.proofs.Words.{IsRightBlock, block_stays}
+use Rattle.core_turns.proofs.Words.{Excepted, IsRightBlock, block_stays}
 use Rattle.core_turns.proofs.Words.{layout_run, AreClear, point_of, IsInPool, written_stays, SparesData, count_grows}
 use Rattle.core_turns.proofs.Words.{CopyRun, GetRun, PutRun, Core, CoreState, IsGetOf, HoldsGet, AsksAlike, IsPutOf}
 use Rattle.core_turns.proofs.Words.{HoldsPut, IsJobOf, HoldingCall, Putting, Reading, Copying, hold_of_call, ranges_of}
@@ -24,21 +24,23 @@ pub record Leaves (P : ℕ → ℕ → Type 0) (before after : CoreState) : Type
   pub reads : (device device_sector : ℕ) → has_device after.core.pool.out device ≡ false → IsDataSector device_sector
       → (P device device_sector → ⊥) → after.disk.reads device device_sector ≡ before.disk.reads device device_sector
 
--- A block of these bytes is read at each place where it has to be right, on each device that is not out.
-abbrev pub IsReadAt : CoreState → IndexEntry → List ℕ → Type 0
-IsReadAt state entry content =
+-- A block of these bytes is read at each place where it has to be right, on each device that is not out, but for what
+-- may be wrong.
+abbrev pub IsReadAt : Excepted → CoreState → IndexEntry → List ℕ → Type 0
+IsReadAt wrong state entry content =
     IsRightBlock (layout_of state.core.pool.uber.parity state.core.pool.uber.births entry) content
-    state.core.pool.uber.reflow state.core.pool.done state.disk.reads state.core.pool.out
+    state.core.pool.uber.reflow state.core.pool.done state.disk.reads state.core.pool.out wrong
 
 -- Each block that stands in the table and is right stays right.
 abbrev pub KeepsRight : CoreState → CoreState → Type 0
-KeepsRight before after = (entry : IndexEntry) (content : List ℕ)
+KeepsRight before after = (wrong : Excepted) (entry : IndexEntry) (content : List ℕ)
     → IsListed before.core.pool.blocks.table.entries entry
-    → IsReadAt before entry content → IsReadAt after entry content
+    → IsReadAt wrong before entry content → IsReadAt wrong after entry content
 
 -- What a call under way holds it holds still.
 abbrev pub KeepsCall : CoreState → CoreState → HoldingCall → Type 0
-KeepsCall before after call = (content : List ℕ) → HoldsCall before content call → HoldsCall after content call
+KeepsCall before after call = (wrong : Excepted) (content : List ℕ) → HoldsCall wrong before content call
+    → HoldsCall wrong after content call
 
 -- No place that a block requires is one of these.
 abbrev pub IsOff : (ℕ → ℕ → Type 0) → Reflow → ℕ → Layout → Type 0
@@ -60,11 +62,11 @@ IsCallOff P reflow done (Copying run) = IsJobOff P reflow done run.job
 -- A right block of the table stays right where it is off what was written.
 pub off_keeps : (P : ℕ → ℕ → Type 0) (before after : CoreState) → Leaves P before after → AreOff P before.core
     → KeepsRight before after
-off_keeps P before after leaves off entry content listed right =
+off_keeps P before after leaves off wrong entry content listed right =
     rw (leaves.parity, leaves.births, leaves.reflow, leaves.done)
     (block_stays (layout_of before.core.pool.uber.parity before.core.pool.uber.births entry) content
     before.core.pool.uber.reflow before.core.pool.done before.disk.reads after.disk.reads before.core.pool.out
-    after.core.pool.out leaves.within
+    after.core.pool.out wrong leaves.within
     (λ cell device device_sector is place used read. leaves.reads device device_sector used
     (search (required_data, leaves.front)) (off entry listed content cell device device_sector is place) ∙ read) right)
 
@@ -149,31 +151,31 @@ put_stays P content before after run leaves off holds =
     }
 
 -- A read stays with its block.
-pub get_block_stays : (P : ℕ → ℕ → Type 0) (content : List ℕ) (before after : CoreState) (run : GetRun)
+pub get_block_stays : (P : ℕ → ℕ → Type 0) (wrong : Excepted) (content : List ℕ) (before after : CoreState) (run : GetRun)
     → Leaves P before after → IsOff P before.core.pool.uber.reflow before.core.pool.done run.read.layout
-    → HoldsGet content before run → HoldsGet content after run
-get_block_stays P content before after run leaves off holds = get_stays content before after run leaves.reflow
+    → HoldsGet wrong content before run → HoldsGet wrong content after run
+get_block_stays P wrong content before after run leaves off holds = get_stays wrong content before after run leaves.reflow
     leaves.done leaves.within (search (count_grows, leaves.parity, arith))
     (λ cell device device_sector is place used read. leaves.reads device device_sector used
     (search (required_data, leaves.front)) (search off) ∙ read) holds
 
 -- So does each call, and a job has come as far.
-pub call_stays : (P : ℕ → ℕ → Type 0) (content : List ℕ) (before after : CoreState) (call : HoldingCall)
+pub call_stays : (P : ℕ → ℕ → Type 0) (wrong : Excepted) (content : List ℕ) (before after : CoreState) (call : HoldingCall)
     → Leaves P before after → IsCallOff P before.core.pool.uber.reflow before.core.pool.done call
-    → HoldsCall before content call → HoldsCall after content call
-call_stays P content before after (Putting run) leaves off = put_stays P content before after run leaves off
-call_stays P content before after (Reading run) leaves off = get_block_stays P content before after run leaves off
-call_stays P content before after (Copying run) leaves off = rw (leaves.reflow, leaves.done) (search job_leaves)
+    → HoldsCall wrong before content call → HoldsCall wrong after content call
+call_stays P wrong content before after (Putting run) leaves off = put_stays P content before after run leaves off
+call_stays P wrong content before after (Reading run) leaves off = get_block_stays P wrong content before after run leaves off
+call_stays P wrong content before after (Copying run) leaves off = rw (leaves.reflow, leaves.done) (search job_leaves)
 
 -- Where pool and disk are as they were each call holds what it held.
-pub calls_hold_on : (contents : ℕ → List ℕ) (calls : List HoldingCall) (old new : Core) (disk : Disk)
+pub calls_hold_on : (wrong : Excepted) (contents : ℕ → List ℕ) (calls : List HoldingCall) (old new : Core) (disk : Disk)
     → new.pool ≡ old.pool
-    → ((call : HoldingCall) → Contains calls call → HoldsCall (at_disk old disk) (contents (actor_of call)) call)
-    → (call : HoldingCall) → Contains calls call → HoldsCall (at_disk new disk) (contents (actor_of call)) call
-calls_hold_on contents calls old new disk same each (Putting run) has =
+    → ((call : HoldingCall) → Contains calls call → HoldsCall wrong (at_disk old disk) (contents (actor_of call)) call)
+    → (call : HoldingCall) → Contains calls call → HoldsCall wrong (at_disk new disk) (contents (actor_of call)) call
+calls_hold_on wrong contents calls old new disk same each (Putting run) has =
     let holds = each (Putting run) has in
     record { len_is = holds.len_is; are_bytes = holds.are_bytes; so_far = rw same holds.so_far }
-calls_hold_on contents calls old new disk same each call has =
+calls_hold_on wrong contents calls old new disk same each call has =
     let holds = each call has in search (same, arith)
 
 -- A put is one of the pool still where its hold is there.

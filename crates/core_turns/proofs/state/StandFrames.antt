@@ -9,19 +9,19 @@ use Rattle.core_turns.proofs.Words.{CommitStands, IsCommitting, Stands}
 use Rattle.core_turns.proofs.state.Holds.{KeepsAlone, keeps_same}
 use Rattle.core_turns.proofs.state.Frames.{Leaves, AreOff, IsCallOff, IsReadAt, KeepsRight, OnlyOut, call_stays}
 use Rattle.core_turns.proofs.state.Frames.{off_keeps}
-use Rattle.core_turns.proofs.Words.{row_at}
+use Rattle.core_turns.proofs.Words.{Damage, row_at, Excepted}
 
 -- ---- the map
 
 -- The map is held still where its blocks stay right.
-pub map_stays : (map : Map) (before after : CoreState)
+pub map_stays : (wrong : Excepted) (map : Map) (before after : CoreState)
     → after.core.pool.blocks.table.entries ≡ before.core.pool.blocks.table.entries → KeepsRight before after
-    → HoldsMap map (pool_at before) → HoldsMap map (pool_at after)
-map_stays map before after table keeps holds = search (right, arith)
+    → HoldsMap wrong map (pool_at before) → HoldsMap wrong map (pool_at after)
+map_stays wrong map before after table keeps holds = search (right, arith)
   where
     right : (entry : IndexEntry) (content : List ℕ) → IsListed before.core.pool.blocks.table.entries entry
-        → map entry.id ≡ Some content → IsReadAt after entry content
-    right entry content listed has = keeps entry content listed (holds.right entry content listed has)
+        → map entry.id ≡ Some content → IsReadAt wrong after entry content
+    right entry content listed has = keeps wrong entry content listed (holds.right entry content listed has)
 
 -- ---- the groups
 
@@ -104,17 +104,17 @@ since_read setting groups time old new same since = record {
 
 -- ---- all that stands
 
-module _ {setting : Setting} {last : Kept} {begun : List Kept} {map : Map} where
+module _ {setting : Setting} {last : Kept} {begun : List Kept} {map : Map} {damage : Damage} where
   -- What stands, where uberblock and blocks are as they were: the groups and the calls are told anew.
   pub stands_still : {contents nows : ℕ → List ℕ} {calls nexts : List HoldingCall} {commit next : Option CommitRun}
       (before after : CoreState) → IsWithin before.core.pool.out after.core.pool.out → KeepsRight before after
       → after.core.pool.uber ≡ before.core.pool.uber → after.core.reach ≡ before.core.reach
       → after.core.pool.blocks ≡ before.core.pool.blocks
       → Later before.disk after.disk → GroupsStand setting last begun nexts next after → PutsSpare after nexts last
-      → ((call : HoldingCall) → Contains nexts call → HoldsCall after (nows (actor_of call)) call)
-      → Stands setting last begun map contents calls commit before → Stands setting last begun map nows nexts next after
+      → ((call : HoldingCall) → Contains nexts call → HoldsCall damage.listed after (nows (actor_of call)) call)
+      → Stands setting last begun map damage contents calls commit before → Stands setting last begun map damage nows nexts next after
   stands_still before after within keeps uber reach blocks later groups spared each stands =
-      let holds = map_stays map before after (cc) keeps stands.holds in
+      let holds = map_stays damage.left map before after (cc) keeps stands.holds in
       search (uber, reach, tells_later, bank_later, arith)
 
   -- So it is where only devices went out.
@@ -122,8 +122,8 @@ module _ {setting : Setting} {last : Kept} {begun : List Kept} {map : Map} where
       (before after : CoreState) → IsWithin before.core.pool.out after.core.pool.out → KeepsRight before after
       → OnlyOut before.core after.core → Later before.disk after.disk
       → GroupsStand setting last begun nexts next after → PutsSpare after nexts last
-      → ((call : HoldingCall) → Contains nexts call → HoldsCall after (nows (actor_of call)) call)
-      → Stands setting last begun map contents calls commit before → Stands setting last begun map nows nexts next after
+      → ((call : HoldingCall) → Contains nexts call → HoldsCall damage.listed after (nows (actor_of call)) call)
+      → Stands setting last begun map damage contents calls commit before → Stands setting last begun map damage nows nexts next after
   stands_anew before after within keeps core = stands_still before after within keeps (rw core) (rw core) (rw core)
 
   -- What stands, over a turn that is none of these calls', as a step of a commit.
@@ -132,8 +132,8 @@ module _ {setting : Setting} {last : Kept} {begun : List Kept} {map : Map} where
       → ((call : HoldingCall) → Contains calls call
       → IsCallOff P before.core.pool.uber.reflow before.core.pool.done call)
       → AreOff P before.core → OnlyOut before.core after.core → Later before.disk after.disk
-      → GroupsStand setting last begun calls next after → Stands setting last begun map contents calls commit before
-      → Stands setting last begun map contents calls next after
+      → GroupsStand setting last begun calls next after → Stands setting last begun map damage contents calls commit before
+      → Stands setting last begun map damage contents calls next after
   stands_frame P before after leaves calls_off off core later groups stands =
       stands_anew before after leaves.within (off_keeps P before after leaves off) core later groups
       (λ run listed. rw core (stands.spared run listed))

@@ -11,8 +11,10 @@ use Rattle.core_turns.proofs.Words.{answered_block, answered_in_pool, answered_k
 use Rattle.core_turns.proofs.Words.{answered_range, answered_spares, answered_under, CopyRun, GetRun, PutRun, Core}
 use Rattle.core_turns.proofs.Words.{IsCore, CoreState, at_disk, IsGetOf, hold_of, AsksAlike, IsPutOf, AnswersGroup}
 use Rattle.core_turns.proofs.Words.{DropsHold, IsCommitOf, hold_for, HoldingCall, Putting, Reading, Copying, AreCallsOf}
-use Rattle.core_turns.proofs.Words.{HoldsCall, IsCallOfCore, LiesInPool, PutsSpare, Stands}
+use Rattle.core_turns.proofs.Words.{HasTooManyOut, IsSolvedAs}
+use Rattle.core_turns.proofs.Words.{Damage, Excepted, HoldsCall, IsCallOfCore, LiesInPool, ListsDamage, PutsSpare, Stands}
 use Rattle.core_turns.proofs.copy.Beside.{cells_behind, goes_behind, job_holds_else}
+use Rattle.core_turns.proofs.state.Damage.{lists_last}
 use Rattle.core_turns.proofs.sync.Begins.{core_follows, core_rows}
 use Rattle.core_turns.proofs.sync.Goes.{commit_stays}
 use Rattle.core_turns.proofs.sync.Answered.{begun_pool}
@@ -100,21 +102,25 @@ module _ (core : Core) (run : CommitRun) (is : IsCore core) (of : IsCommitOf cor
     -- ---- what they hold
 
     -- A column that was read, or lost with its device, is so at the chosen reflow.
-    column_stays : (layout : Layout) (content : List ℕ) (row column : ℕ) (given : Option (List ℕ))
+    column_stays : (wrong : Excepted) (layout : Layout) (content : List ℕ) (row column : ℕ) (given : Option (List ℕ))
         → spot_of layout chosen row column ≡ spot_of layout reflow row column
-        → IsColumnOf layout content reflow core.pool.out row column given
-        → IsColumnOf layout content chosen core.pool.out row column given
-    column_stays layout content row column given same is_column = grind arith
+        → IsColumnOf layout content reflow core.pool.out wrong row column given
+        → IsColumnOf layout content chosen core.pool.out wrong row column given
+    column_stays wrong layout content row column None same is_column = rw same is_column
+    column_stays wrong layout content row column (Some got) same is_column = rw same is_column
 
-    call_holds : (disk : Disk) (content : List ℕ) (call : HoldingCall) → IsCallOfCore core call
-        → HoldsCall (at_disk core disk) content call → HoldsCall (at_disk answered disk) content call
-    call_holds disk content (Putting put) its held = put_holds_moves core answered put its (put_alike put its)
+    call_holds : (wrong : Excepted) (disk : Disk) (content : List ℕ) (call : HoldingCall) → IsCallOfCore core call
+        → HoldsCall wrong (at_disk core disk) content call → HoldsCall wrong (at_disk answered disk) content call
+    call_holds wrong disk content (Putting put) its held = put_holds_moves core answered put its (put_alike put its)
         (search (answered_in_pool, pool, on)) on.front disk content refl held
-    call_holds disk content (Reading get) (kind, its) held =
-        let right : IsRightBlock get.read.layout content chosen behind disk.reads core.pool.out =
+    call_holds wrong disk content (Reading get) (kind, its) held =
+        let right : IsRightBlock get.read.layout content chosen behind disk.reads core.pool.out wrong =
         search (answered_block, pool, on) in
+        let solved : wrong ≡ [] → (HasTooManyOut answered → ⊥) → IsSolvedAs content get.solved =
+        λ none few. held.solved none (λ many. few
+        (rw (ap (λ (l : Layout). l.parity) (layout_same get.entry its.born)) many)) in
         search (column_stays, spot_stays, get_outside, held.so_far.got, arith)
-    call_holds disk content (Copying job) its held =
+    call_holds wrong disk content (Copying job) its held =
         let its = chooses reflow core.pool.done chosen held.goes.widening.expands of.next.choice in
         search cells_behind
 
@@ -126,18 +132,20 @@ module _ (core : Core) (run : CommitRun) (is : IsCore core) (of : IsCommitOf cor
     born_by_now kept lies entry listed = search arith
 
     -- The group is the last one, and no commit is under way.
-    pub ended_stands : (setting : Setting) (last next : Kept) (map : Map) (contents : ℕ → List ℕ)
+    pub ended_stands : (setting : Setting) (last next : Kept) (map : Map) (damage : Damage) (contents : ℕ → List ℕ)
         (calls : List HoldingCall) (disk : Disk) → Knows setting next [] disk
         → record run.uber { out = 0 } ≡ record next.uber { out = 0 } → LiesInPool core next
-        → NoneFree core.pool.blocks core.begun (blocks_of next) → next.excepted ≡ []
+        → NoneFree core.pool.blocks core.begun (blocks_of next)
         → PutsSpare (at_disk core disk) calls next
         → AreCallsOf core calls → {commit : Option CommitRun}
-        → Stands setting last (next ∷ []) map contents calls commit (at_disk core disk)
-        → Stands setting next [] map contents calls None (at_disk answered disk)
-    ended_stands setting last next map contents calls disk knows alike lies kept excepted spared are stands =
+        → Stands setting last (next ∷ []) map damage contents calls commit (at_disk core disk)
+        → Stands setting next [] map damage contents calls None (at_disk answered disk)
+    ended_stands setting last next map damage contents calls disk knows alike lies kept spared are stands =
         let rows = core_rows core chosen is of.next.choice in
         let none_free : NoneFree answered.pool.blocks answered.pool.uber.group (blocks_of next) =
         search (answered_kept, pool, on, born_by_now, arith) in
+        let lists : (kept : Kept) → Contains (next ∷ []) kept → ListsDamage damage kept =
+        lists_last damage last next stands.lists in
         search (answered_spares, answered_map, pool, on, born_by_now, rows, call_holds, are.each, stands.each)
 
 -- A core of which no call was made leaves what a step that ends a commit begins with.
@@ -168,11 +176,11 @@ module _ {before after : CoreState} {run : CommitRun} {group : ℕ} (is : IsCore
   commit_ends_calls calls are = rw answers.answers.rest (search (answered_calls, drops))
 
   -- A commit ends: its group is the last one.
-  pub commit_ends_stands : {setting : Setting} {last next : Kept} {map : Map} {contents : ℕ → List ℕ}
+  pub commit_ends_stands : {setting : Setting} {last next : Kept} {map : Map} {damage : Damage} {contents : ℕ → List ℕ}
       {calls : List HoldingCall} → AreCallsOf before.core calls → IsWithin before.core.pool.out setting.failed
-      → Stands setting last (next ∷ []) map contents calls (Some run) before
-      → Stands setting next [] map contents calls None after
-  commit_ends_stands {setting} {last} {next} {map} {contents} {calls} are within stands =
+      → Stands setting last (next ∷ []) map damage contents calls (Some run) before
+      → Stands setting next [] map damage contents calls None after
+  commit_ends_stands {setting} {last} {next} {map} {damage} {contents} {calls} are within stands =
       let was = stands.groups in
       let old = point_of before.core.pool.out before.disk in
       let new = point_of after.core.pool.out after.disk in

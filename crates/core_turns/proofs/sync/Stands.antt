@@ -8,6 +8,7 @@ use Rattle.core_turns.proofs.Words.{committing_cut, committing_knows, goes_on, s
 use Rattle.core_turns.proofs.Words.{listed_in_pool, IsReady, PutRun, More, Core, IsCore, CoreState, as_begun, at_disk}
 use Rattle.core_turns.proofs.Words.{pool_at, HasTooManyOut, BeginsCommit, IsCommitOf, StepsCommit, commit_of}
 use Rattle.core_turns.proofs.Words.{HoldingCall, Putting, Stands, AreCallsOf, CommitStands, shown_of, choice_widths}
+use Rattle.core_turns.proofs.Words.{Damage, ListsDamage}
 use Rattle.core_turns.proofs.state.Calls.{range_listed}
 use Rattle.core_turns.proofs.state.Cores.{bank_within}
 use Rattle.core_turns.proofs.sync.Begins.{begins_ready, begun_commit, core_follows, few_out, rests, rests_pool}
@@ -15,6 +16,7 @@ use Rattle.core_turns.proofs.state.Frames.{OnlyOut, call_off_nowhere, off_nowher
 use Rattle.core_turns.proofs.state.Frames.{calls_beside, calls_stay}
 use Rattle.core_turns.proofs.state.StandFrames.{group_still, stands_frame}
 use Rattle.core_turns.proofs.state.Holds.{taken_has}
+use Rattle.core_turns.proofs.state.Damage.{lists_next}
 use Rattle.core_turns.proofs.state.Writes.{shown_one}
 
 -- No put has a sector of a block that stands in the table.
@@ -33,14 +35,14 @@ commit_begins_calls old new calls actor run begins are = rw begins.rest
     (search taken_has) are)
 
 -- A commit begins: it makes the group of the map as it is.
-pub commit_begins_stands : {setting : Setting} {last : Kept} {begun : List Kept} {map : Map} {contents : ℕ → List ℕ}
+pub commit_begins_stands : {setting : Setting} {last : Kept} {begun : List Kept} {map : Map} {damage : Damage} {contents : ℕ → List ℕ}
     {calls : List HoldingCall} {old new : Core} {disk : Disk} {actor : ℕ} {run : CommitRun}
     → Lawful disk → IsCore old → IsTable old.pool.blocks.table → BeginsCommit old new actor (More run)
-    → AreCallsOf old calls → Stands setting last begun map contents calls None (at_disk old disk)
-    → (next : Kept) × (next.map ≡ map) × (next.excepted ≡ []) × (next.uber.group ≡ new.begun)
+    → AreCallsOf old calls → Stands setting last begun map damage contents calls None (at_disk old disk)
+    → (next : Kept) × (next.map ≡ map) × (next.excepted ≡ damage.left) × (next.uber.group ≡ new.begun)
     × KeepsOrEnds old.pool.uber.reflow next.uber.reflow × (next.uber.parity ≡ old.pool.uber.parity)
-    × Stands setting last (next ∷ []) map contents calls (Some run) (at_disk new disk)
-commit_begins_stands {setting} {last} {begun} {map} {contents} {calls} {old} {new} {disk} {actor} {run} lawful is table
+    × Stands setting last (next ∷ []) map damage contents calls (Some run) (at_disk new disk)
+commit_begins_stands {setting} {last} {begun} {map} {damage} {contents} {calls} {old} {new} {disk} {actor} {run} lawful is table
     begins are stands = (next, refl, refl, search (rests, arith), widths, refl, rw begins.rest (rw begins.run_is now))
   where
     chosen : Reflow
@@ -53,14 +55,14 @@ commit_begins_stands {setting} {last} {begun} {map} {contents} {calls} {old} {ne
       entries = old.pool.blocks.table.entries;
       others = [];
       map = map;
-      excepted = [];
+      excepted = damage.left;
     }
 
     -- the core once it is begun
     begun_core : Core
     begun_core = record old { holds = new.holds; begun = old.begun + 1; committing = Some actor }
 
-    alone : Stands setting last [] map contents calls None (at_disk old disk)
+    alone : Stands setting last [] map damage contents calls None (at_disk old disk)
     alone = search (few_out, arith)
 
     widths : KeepsOrEnds old.pool.uber.reflow chosen
@@ -77,7 +79,7 @@ commit_begins_stands {setting} {last} {begun} {map} {contents} {calls} {old} {ne
         (core_follows old chosen is (Chooses old.holds begins.choice)) widths is.step is_ready [])
 
     -- The commit has begun, its blocks are those of the table, and the rest stands as it did.
-    now : Stands setting last (next ∷ []) map contents calls (Some (commit_of old.pool chosen))
+    now : Stands setting last (next ∷ []) map damage contents calls (Some (commit_of old.pool chosen))
         (at_disk begun_core disk)
     now =
         let listed : (entry : IndexEntry) → Contains next.entries entry → IsListed next.entries entry =
@@ -93,10 +95,11 @@ commit_begins_stands {setting} {last} {begun} {map} {contents} {calls} {old} {ne
             inside = λ entry has. listed_in_pool (as_begun old) entry is.is is.step (listed entry has);
           };
           kept = search blocks_kept;
-          excepted = refl;
           spared = search spare_table;
         } in
-        search (calls_hold_on contents calls old begun_core disk refl alone.each)
+        let lists : (kept : Kept) → Contains (last ∷ next ∷ []) kept → ListsDamage damage kept =
+        lists_next damage last next alone.damage_is refl alone.lists in
+        search (calls_hold_on damage.listed contents calls old begun_core disk refl alone.each)
 
 -- ---- a step of it
 
@@ -106,10 +109,10 @@ commit_steps_calls before after calls run next steps are = calls_stay before.cor
     (steps_went Called run next (point_of before.core.pool.out before.disk) (point_of after.core.pool.out after.disk)
     steps.1).stay are
 
-module _ {setting : Setting} {last : Kept} {begun : List Kept} {map : Map} {contents : ℕ → List ℕ}
+module _ {setting : Setting} {last : Kept} {begun : List Kept} {map : Map} {damage : Damage} {contents : ℕ → List ℕ}
     {calls : List HoldingCall} {before : CoreState} {run : CommitRun} (is : IsCore before.core)
     (within : IsWithin before.core.pool.out setting.failed)
-    (stands : Stands setting last begun map contents calls (Some run) before) where
+    (stands : Stands setting last begun map damage contents calls (Some run) before) where
   module _ (after : CoreState) (next : CommitRun) (result : CommitStep)
       (steps : CommitSteps run (point_of before.core.pool.out before.disk) next
       (point_of after.core.pool.out after.disk) result) (core : OnlyOut before.core after.core)
@@ -124,7 +127,7 @@ module _ {setting : Setting} {last : Kept} {begun : List Kept} {map : Map} {cont
     come_on = committing_steps setting last stands.groups.next result run next old new within steps stands.groups.come
 
     -- A step of a commit leaves the rest as it stands.
-    pub commit_moves_stands : Stands setting last begun map contents calls (Some next) after
+    pub commit_moves_stands : Stands setting last begun map damage contents calls (Some next) after
     commit_moves_stands =
         let went = steps_went result run next old new steps in
         stands_frame Nowhere before after (search leaves_spared) (search call_off_nowhere) (search off_nowhere)
@@ -144,11 +147,11 @@ module _ {setting : Setting} {last : Kept} {begun : List Kept} {map : Map} {cont
         moved Ended steps kept = subst (λ (p : Point). KeepsSince setting groups time p.disk) (sym steps.same) kept
 
 -- A call of it in a turn of its own.
-module _ {setting : Setting} {last : Kept} {begun : List Kept} {map : Map} {contents : ℕ → List ℕ}
+module _ {setting : Setting} {last : Kept} {begun : List Kept} {map : Map} {damage : Damage} {contents : ℕ → List ℕ}
     {calls : List HoldingCall} {before after : CoreState} {run next : CommitRun} (is : IsCore before.core)
     (steps : StepsCommit before run after (More next)) (within : IsWithin before.core.pool.out setting.failed)
-    (stands : Stands setting last begun map contents calls (Some run) before) where
-  pub commit_steps_stands : Stands setting last begun map contents calls (Some next) after
+    (stands : Stands setting last begun map damage contents calls (Some run) before) where
+  pub commit_steps_stands : Stands setting last begun map damage contents calls (Some next) after
   commit_steps_stands = commit_moves_stands is within stands after next Called steps.1 steps.2 steps.3
 
   pub commit_steps_since : (groups : List Kept) (time : ℕ) → IsRowOf groups last (shown_of begun (Some next))
@@ -158,8 +161,8 @@ module _ {setting : Setting} {last : Kept} {begun : List Kept} {map : Map} {cont
 -- ---- cut short
 
 -- A commit that is cut short, since too many devices are out.
-pub commit_is_cut : {setting : Setting} {last : Kept} {begun : List Kept} {map : Map} {contents : ℕ → List ℕ}
+pub commit_is_cut : {setting : Setting} {last : Kept} {begun : List Kept} {map : Map} {damage : Damage} {contents : ℕ → List ℕ}
     {calls : List HoldingCall} {state : CoreState} {run : CommitRun} → HasTooManyOut state.core
-    → Stands setting last begun map contents calls (Some run) state
-    → Stands setting last begun map contents calls None state
+    → Stands setting last begun map damage contents calls (Some run) state
+    → Stands setting last begun map damage contents calls None state
 commit_is_cut many stands = search (committing_cut, arith)

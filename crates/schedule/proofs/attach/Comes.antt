@@ -3,7 +3,7 @@ use Rattle.schedule.proofs.Words.{◌≡◌, ℕ, ◌+◌, ◌-◌, List, length
 use Rattle.schedule.proofs.Words.{slice_get_within, none_read, Answer, map_of, ScriptCall, Script, calls_of, AttachRun}
 use Rattle.schedule.proofs.Words.{More, Busy, Done, BeginsAttach, BeginsAttachSo, attach_commit, at_disk, Stands}
 use Rattle.schedule.proofs.Words.{attaching_calls, attaching_stands, turn_still, Client, UnderWay, calls_under_way}
-use Rattle.schedule.proofs.Words.{setting_now, TurnState, LeavesBegun, TakesTurn}
+use Rattle.schedule.proofs.Words.{setting_now, TurnState, LeavesBegun, TakesTurn, undamaged}
 use Rattle.core_state.specs.declared.answer.Kind.TheVariants as kind
 use Rattle.schedule.specs.declared.client.Work.TheVariants as work
 use Rattle.schedule.proofs.turn.Answered.{answered_idle}
@@ -41,7 +41,7 @@ module _ {script : Script} {actor : ℕ} {before after : TurnState} {clients new
       (λ its its_is. rw (← same_attach its_is) (search (none_read, arith))) idle disk leaves.1
       (none_there no_commit) (λ asked is. tt)
       (rw (with_same runs.contents actor, same_calls) (subst (Stands (setting_now runs) runs.last runs.begun
-      (map_of world.handed world.opening before.items) runs.contents (calls_under_way clients) runs.commit)
+      (map_of world.handed world.opening before.items) undamaged runs.contents (calls_under_way clients) runs.commit)
       (λ i. at_disk (sym begins.rest i) (sym disk i))
       (attaching_stands old (Some actor) before.state.disk takes.is runs.stands))))
     where

@@ -6,7 +6,7 @@ use Rattle.schedule.proofs.Words.{Joins, Signs, More, HoldsAttach, IsAttachRunOf
 use Rattle.schedule.proofs.Words.{IsCommitOf, StepsCommit, Core, HasTooManyOut, Stands, shown_in, join_drops_since}
 use Rattle.schedule.proofs.Words.{join_drops_stands, join_goes_since, join_goes_stands, few_out, commit_steps_since}
 use Rattle.schedule.proofs.Words.{commit_steps_stands, Client, UnderWay, TakesTurn, Past, HasBegun, HasBegunIn, Runs}
-use Rattle.schedule.proofs.Words.{calls_under_way, setting_now, LeavesGoing, TurnState, WorkGoesOn}
+use Rattle.schedule.proofs.Words.{calls_under_way, setting_now, LeavesGoing, TurnState, WorkGoesOn, undamaged}
 use Rattle.core_commit.specs.declared.commit_run.Stage.TheVariants.{Signs as Signing}
 use Rattle.core_commit.specs.declared.join_run.JoinStep.TheVariants as step
 use Rattle.core_turns.proofs.state.Frames.{calls_stay as core_calls}
@@ -72,7 +72,7 @@ module _ {script : Script} {actor : ℕ} {before after : TurnState} {clients new
         → IsWithin old.pool.out world.setting.failed → HalvesGoOn commit.stage made.stage
         × GoesOnSince (setting_now runs) runs.last (shown_in runs.begun made.stage) before.state.disk after.state.disk
         × HoldsAttach (setting_now runs) runs.last runs.begun after.state.disk next
-        × Stands (setting_now runs) runs.last runs.begun (map_of world.handed world.opening before.items) runs.contents
+        × Stands (setting_now runs) runs.last runs.begun (map_of world.handed world.opening before.items) undamaged runs.contents
         (calls_under_way clients) (Some made) after.state)
         → LeavesGoing actor call before after under (More (work.Attach next)) → ItComes takes
     attach_steps goes next made next_makes few core of of_commit stands further = attach_makes next goes

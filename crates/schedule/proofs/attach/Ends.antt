@@ -6,7 +6,7 @@ use Rattle.schedule.proofs.Words.{AwaitsAttach, item_of, World, last_there, widt
 use Rattle.schedule.proofs.Words.{Script, calls_of, Signs, Done, EndsAttach, IsAttachRunOf, IsMadeAt, attach_answer}
 use Rattle.schedule.proofs.Words.{IsCore, Stands, attach_ends_stands, attaching_calls, commit_ends_calls, few_out}
 use Rattle.schedule.proofs.Words.{Client, UnderWay, TakesTurn, Past, IsBegunAt, IsRightNext, Runs, calls_under_way}
-use Rattle.schedule.proofs.Words.{setting_now, LeavesGoing, TurnState, WorkGoesOn, group_for, IsListedWith}
+use Rattle.schedule.proofs.Words.{setting_now, LeavesGoing, TurnState, WorkGoesOn, group_for, IsListedWith, undamaged}
 use Rattle.core_state.specs.declared.answer.Answer.TheVariants as answer
 use Rattle.core_state.specs.declared.answer.Kind.TheVariants as kind
 use Rattle.core_state.specs.declared.item.Group.{Group as GroupItem}
@@ -89,14 +89,14 @@ module _ {script : Script} {actor : ℕ} {before after : TurnState} {clients new
     abbrev map : Map
     map = map_of world.handed world.opening before.items
 
-    stands : Stands (setting_now runs) runs.last runs.begun map runs.contents (calls_under_way clients) (Some run)
+    stands : Stands (setting_now runs) runs.last runs.begun map undamaged runs.contents (calls_under_way clients) (Some run)
         before.state
     stands = its_stands from refl runs
 
     abbrev next : Kept
     next = stands.groups.next
 
-    stood : Stands (setting_now runs) next [] map runs.contents (calls_under_way clients) None after.state
+    stood : Stands (setting_now runs) next [] map undamaged runs.contents (calls_under_way clients) None after.state
     stood = attach_ends_stands takes.is still of.0.of ends takes.schedule.going.are within
         (rw stands.groups.begun_is at stands)
 

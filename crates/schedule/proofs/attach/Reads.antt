@@ -11,7 +11,7 @@ use Rattle.schedule.proofs.Words.{IsSyncRefused, Core, CoreState, HasBankOf, IsC
 use Rattle.schedule.proofs.Words.{attaching_calls, attaching_stands, look_stands, attaching_commit, rests, since_read}
 use Rattle.schedule.proofs.Words.{Client, UnderWay, TakesTurn, IsGroupKind, Past, IsRightNext, AreGoing, Runs}
 use Rattle.schedule.proofs.Words.{calls_under_way, commit_in, held_under, setting_now, made_by, LeavesGoing, TurnState}
-use Rattle.schedule.proofs.Words.{WorkGoesOn, entry_for}
+use Rattle.schedule.proofs.Words.{WorkGoesOn, entry_for, undamaged}
 use Rattle.core_state.specs.declared.answer.Answer.TheVariants as answer
 use Rattle.schedule.specs.declared.client.Work.TheVariants as work
 use Rattle.schedule.proofs.attach.Uses.{refused_plain, sync_plain}
@@ -93,7 +93,7 @@ module _ {script : Script} {actor : ℕ} {before after : TurnState} {clients new
       (search still_known) (later_refl after.state.disk) (λ groups time row kept. kept) under_is client_is
       (work_no_commit under_is no_commit) (λ makes. none_there next_early makes) (λ asked asked_is. tt)
       (subst (λ (s : CoreState). Stands (setting_now runs) runs.last runs.begun
-      (map_of world.handed world.opening before.items) runs.contents (calls_under_way news) runs.commit s)
+      (map_of world.handed world.opening before.items) undamaged runs.contents (calls_under_way news) runs.commit s)
       (λ i. at_disk (sym core i) after.state.disk) (rw same runs.stands)))
     where
       client_is : after.client
@@ -126,7 +126,7 @@ module _ {script : Script} {actor : ℕ} {before after : TurnState} {clients new
       runs_answer takes runs runs.commit runs.recorded refl idle refl (right world past was) fits.of_kind with
       runs.theirs (work_no_commit under_is no_commit)
       (rw (no_block world.handed map entry)
-      (subst (λ (s : CoreState). Stands (setting_now runs) runs.last runs.begun map runs.contents (calls_under_way news)
+      (subst (λ (s : CoreState). Stands (setting_now runs) runs.last runs.begun map undamaged runs.contents (calls_under_way news)
       runs.commit s)
       (λ i. at_disk (sym stops.core i) after.state.disk)
       (rw same (attaching_stands old None after.state.disk takes.is runs.stands)))))

@@ -30,7 +30,7 @@ frees_so old new id given frees = record {
 
 -- The answer is right of the map that the pool held.
 frees_right : (old new : Core) {disk : Disk} (map : Map) (id : ℕ) (given : Answer)
-    → HoldsMap map (pool_at (at_disk old disk)) → FreesBlock old new id given → IsRightFree (map id) given
+    → HoldsMap [] map (pool_at (at_disk old disk)) → FreesBlock old new id given → IsRightFree (map id) given
 frees_right old new map id given holds frees = grind (arith, found_listed, none_some, found_id)
 
 module _ {script : Script} {actor : ℕ} {before after : TurnState} {clients news : List Client}

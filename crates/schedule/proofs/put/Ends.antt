@@ -3,7 +3,7 @@ use Rattle.schedule.proofs.Words.{◌≡◌, ◌≢◌, ◌⊎◌, inl, inr, ℕ
 use Rattle.schedule.proofs.Words.{Answer, Map, Kept, Setting, CommitRun, ScriptCall, fill_bytes, Filled, PutRun, Done}
 use Rattle.schedule.proofs.Words.{Core, CoreState, GivesUp, GivesUpTurn, IsStoppedPut, StoresBlock, HoldingCall}
 use Rattle.schedule.proofs.Words.{Putting, AreCallsOf, Stands, put_fills_calls, put_fills_stands, EndsPutting}
-use Rattle.schedule.proofs.Words.{IsFilledIn, arith}
+use Rattle.schedule.proofs.Words.{IsFilledIn, arith, undamaged}
 use Rattle.core_state.specs.declared.answer.Answer.TheVariants as answer
 use Rattle.schedule.proofs.turn.Fitting.{TellsOut}
 use Rattle.schedule.proofs.put.Puts.{IsUnstored, tells_out}
@@ -25,8 +25,8 @@ pub record FilledAmong (state : CoreState) (content : List ℕ) (left calls : Li
     pub are : AreCallsOf state.core nexts
     pub stands : (setting : Setting) (last : Kept) (begun : List Kept) (map : Map) (contents : ℕ → List ℕ)
         (commit : Option CommitRun) → contents run.hold.actor ≡ content
-        → Stands setting last begun map contents calls commit state
-        → Stands setting last begun map contents nexts commit state
+        → Stands setting last begun map undamaged contents calls commit state
+        → Stands setting last begun map undamaged contents nexts commit state
 
 pub fills_among : {state : CoreState} {left calls : List HoldingCall} {run filled : PutRun} (call : ScriptCall)
     → IsFilledIn call run filled → length (fill_bytes call.fill) ≡ run.len → Gains left calls (Putting run)

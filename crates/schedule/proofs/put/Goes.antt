@@ -9,7 +9,7 @@ use Rattle.schedule.proofs.Words.{put_ends_stands, put_gives_up_stands, put_shar
 use Rattle.schedule.proofs.Words.{Client, UnderWay, IsWorkFor, Runs, calls_under_way, setting_now, TurnState}
 use Rattle.schedule.proofs.Words.{EndsPutting}
 use Rattle.schedule.proofs.Words.{GoesOnPutting, IsFilledIn, LeavesGoing, entry_for, made_by, IsWorldOf, TakesTurn}
-use Rattle.schedule.proofs.Words.{Past}
+use Rattle.schedule.proofs.Words.{Past, undamaged}
 use Rattle.core_state.specs.declared.answer.Answer.TheVariants as answer
 use Rattle.core_state.specs.declared.answer.Kind.TheVariants as kind
 use Rattle.core_state.specs.declared.item.Item.TheVariants.{Call as CallItem}
@@ -88,9 +88,9 @@ module _ {script : Script} {actor : ℕ} {before after : TurnState} {clients new
         → given ≢ answer.Full → AreCallsOf now (calls_under_way news)
         → ((world : World) (past : Past) → IsWorldOf script world
         → (runs : Runs world script past before.state before.items clients)
-        → Stands (setting_now runs) runs.last runs.begun (map_of world.handed world.opening before.items) runs.contents
+        → Stands (setting_now runs) runs.last runs.begun (map_of world.handed world.opening before.items) undamaged runs.contents
         among.nexts runs.commit before.state → Stands (setting_now runs) runs.last runs.begun
-        (map_after_answer world.handed (map_of world.handed world.opening before.items) entry given) runs.contents
+        (map_after_answer world.handed (map_of world.handed world.opening before.items) entry given) undamaged runs.contents
         (calls_under_way news) runs.commit (at_disk now before.state.disk)) → ItComes takes
     ends_with listed change ends plain answers tells other are stands =
         let of_filled = among.are.each (Putting filled) (gains_item (calls_under_way news) among.nexts (Putting filled)

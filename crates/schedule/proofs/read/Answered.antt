@@ -7,7 +7,7 @@ use Rattle.schedule.proofs.Words.{Done, Core, CoreState, IsCore, IsReadKind, Has
 use Rattle.schedule.proofs.Words.{SolvesGet, AnswersSolved, EndsGet, HoldingCall, Reading, AreCallsOf, Stands}
 use Rattle.schedule.proofs.Words.{gains_item, get_tells, get_ends_stands, get_solves_stands, get_ends_calls}
 use Rattle.schedule.proofs.Words.{get_solves_calls, get_shared, keeps_ended, IsRightNext, AllBelow, EndsReading}
-use Rattle.schedule.proofs.Words.{entry_for, listed_for}
+use Rattle.schedule.proofs.Words.{entry_for, listed_for, undamaged}
 use Rattle.core_state.specs.declared.answer.Answer.TheVariants as answer
 use Rattle.core_state.specs.declared.item.Item.TheVariants.{Call as CallItem}
 use Rattle.schedule.proofs.turn.Fitting.{NoLimit, TellsOut}
@@ -72,8 +72,8 @@ pub record EndsRead (before after : CoreState) (run : GetRun) (given : Answer) (
     pub no_limit : NoLimit given
     pub calls_are : AreCallsOf after.core left
     pub stands : (setting : Setting) (last : Kept) (begun : List Kept) (map : Map) (contents : ℕ → List ℕ)
-        (commit : Option CommitRun) → Stands setting last begun map contents calls commit before
-        → Stands setting last begun map contents left commit after
+        (commit : Option CommitRun) → Stands setting last begun map undamaged contents calls commit before
+        → Stands setting last begun map undamaged contents left commit after
         × IsReadRight (Some (contents run.hold.actor)) run.kind given
 
 -- The pool is left where only its hold has ended.

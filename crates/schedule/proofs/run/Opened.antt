@@ -1,10 +1,12 @@
 -- A run of turns as an opening leaves it: no client has begun a call.
 use Rattle.schedule.proofs.Words.{◌≡◌, ℕ, zero, suc, List, [], ◌∷◌, Some, None, refl, subst, arith, slice_get, Disk}
 use Rattle.schedule.proofs.Words.{Later, Item, Group, Map, PutBytes, Calls, HaveParity, Kept, Setting, World}
+use Rattle.schedule.proofs.Words.{⊎_elim, Contains, contains_cases}
 use Rattle.schedule.proofs.Words.{contains_none, AreUnderWay, OpensPool, Pool, HasBank, HoldsMap, state_of, Script}
 use Rattle.schedule.proofs.Words.{first_item, Core, at_disk, AreCallsOf, Stands, Client, UnderWay, IsGoing, Runs}
-use Rattle.schedule.proofs.Words.{calls_under_way, blank_client, blank_clients, turns_of, first_turns, Past}
+use Rattle.schedule.proofs.Words.{calls_under_way, blank_client, blank_clients, turns_of, first_turns, Past, undamaged}
 use Rattle.schedule.proofs.run.Beginning.{recorded_first}
+use Rattle.core_turns.proofs.state.Damage.{none_damaged, none_listed}
 use Rattle.schedule.proofs.turn.Theirs.{none_some}
 
 -- the core of a pool of which no call is under way
@@ -62,20 +64,25 @@ module _ {setting : Setting} {first : Kept} {later : List Kept} {pool : Pool} {s
     handed = handed;
   }
 
+  only_next : (kept : Kept) → Contains (begins.opened.next ∷ []) kept → kept ≡ begins.opened.next
+  only_next kept listed = ⊎_elim (λ same. same) (λ none. absurd (contains_none kept none))
+      (contains_cases begins.opened.next [] kept listed)
+
   -- The pool stands, and holds the map of the group that was chosen.
   stands_first : HasBank pool.uber pool.out mid
-      → Stands setting begins.opened.next [] chosen_map (λ actor. []) [] None (at_disk (resting pool) mid)
+      → Stands setting begins.opened.next [] chosen_map undamaged (λ actor. []) [] None (at_disk (resting pool) mid)
   stands_first bank = record {
     groups = search;
     alike = begins.group.alike;
     kept = begins.group.kept;
     spared = search contains_none;
-    excepted = begins.group.excepted;
+    damage_is = none_damaged;
+    lists = λ kept listed. none_listed kept (rw (only_next kept listed) begins.excepted);
     shape = begins.group.shape;
     tells = begins.group.tells;
     bank = bank;
-    holds = subst (λ (map : Map). HoldsMap map (state_of pool mid)) (λ i id. begins.opened.renews.map id i)
-        begins.holds;
+    holds = subst (λ (map : Map). HoldsMap [] map (state_of pool mid)) (λ i id. begins.opened.renews.map id i)
+        (rw begins.excepted at begins.holds);
     each = λ call has. absurd (contains_none call has);
   }
 

@@ -7,7 +7,7 @@ use Rattle.schedule.proofs.Words.{StepsCommit, AnswersGroup, Stands, TurnGoesOn,
 use Rattle.schedule.proofs.Words.{commit_ends_calls, commit_ends_stands, commit_steps_calls, commit_steps_stands}
 use Rattle.schedule.proofs.Words.{commit_steps_since, Client, UnderWay, Work, Recorded, HasBegun, IsWorkOf, AreGoing}
 use Rattle.schedule.proofs.Words.{Runs, call_of_client, calls_under_way, commit_in, held_under, setting_now, begun_at}
-use Rattle.schedule.proofs.Words.{TurnState, LeavesGoing, group_for, TakesTurn, Past}
+use Rattle.schedule.proofs.Words.{TurnState, LeavesGoing, group_for, TakesTurn, Past, undamaged}
 use Rattle.core_state.specs.declared.answer.Answer.TheVariants as answer
 use Rattle.core_state.specs.declared.answer.Kind.TheVariants as kind
 use Rattle.core_state.specs.declared.item.Group.{Group as GroupItem}
@@ -126,14 +126,14 @@ module _ {script : Script} {actor : ℕ} {before after : TurnState} {clients new
       abbrev map : Map
       map = map_of world.handed world.opening before.items
 
-      stands : Stands (setting_now runs) runs.last runs.begun map runs.contents (calls_under_way clients) (Some run)
+      stands : Stands (setting_now runs) runs.last runs.begun map undamaged runs.contents (calls_under_way clients) (Some run)
           before.state
       stands = its_stands from (makes.commit run) runs
 
       abbrev next : Kept
       next = stands.groups.next
 
-      stood : Stands (setting_now runs) next [] map runs.contents (calls_under_way clients) None after.state
+      stood : Stands (setting_now runs) next [] map undamaged runs.contents (calls_under_way clients) None after.state
       stood = commit_ends_stands takes.is of_core.0 answers takes.schedule.going.are within
           (rw stands.groups.begun_is at stands)
 
@@ -231,7 +231,7 @@ module _ {script : Script} {actor : ℕ} {before after : TurnState} {clients new
       commit_is_cut takes runs None
       (whole_recorded from (makes.commit run) runs (its_group runs) (λ attached. absurd attached)) refl
       (idle_now from given leaves) (cc) (search (group_cut_right, last_entry, given, arith)) tt listed
-      refl only_it (rw same (subst (Stands (setting_now runs) runs.last runs.begun map runs.contents
+      refl only_it (rw same (subst (Stands (setting_now runs) runs.last runs.begun map undamaged runs.contents
       (calls_under_way clients) None) (sym steps.2) stood)))
     where
       given : Answer

@@ -3,7 +3,7 @@ use Rattle.schedule.proofs.Words.{◌≡◌, ℕ, List, length, Option, Some, No
 use Rattle.schedule.proofs.Words.{PutBytes, map_after_answer, IsGroupBefore, IsAnswerOf, Kept, Setting, Knows, World}
 use Rattle.schedule.proofs.Words.{Point, CommitRun, HasCalled, committing_knows, Core, CoreState, HasTooManyOut}
 use Rattle.schedule.proofs.Words.{IsSyncRefused, HoldingCall, GroupsStand, Stands, shown_of, shown_one, Client}
-use Rattle.schedule.proofs.Words.{UnderWay, IsGroupKind, IsRightNext, IsGoing, IsTheirs, commit_in}
+use Rattle.schedule.proofs.Words.{UnderWay, IsGroupKind, IsRightNext, IsGoing, IsTheirs, commit_in, undamaged}
 use Rattle.core_state.specs.declared.answer.Answer.TheVariants as answer
 use Rattle.core_state.specs.declared.item.Group.{Group as GroupItem}
 use Rattle.schedule.proofs.turn.Recording.{HalvesGoOn, HasParityOf}
@@ -15,12 +15,12 @@ use Rattle.schedule.proofs.turn.Theirs.{OnlyIt, makes_commit, some_is}
 module _ {setting : Setting} {last : Kept} {begun : List Kept} {map : Map} {contents : ℕ → List ℕ}
     {calls : List HoldingCall} {state : CoreState} where
   -- What is certain of the last group and of those that images can show, whether a commit is under way or not.
-  pub stands_know : {commit : Option CommitRun} → Stands setting last begun map contents calls commit state
+  pub stands_know : {commit : Option CommitRun} → Stands setting last begun map undamaged contents calls commit state
       → Knows setting last (shown_of begun commit) state.disk
   stands_know {commit} stands = search (shown_one, committing_knows, arith)
 
   -- The group of a commit has the parity of the last one.
-  pub begun_parity : {run : CommitRun} → Stands setting last begun map contents calls (Some run) state
+  pub begun_parity : {run : CommitRun} → Stands setting last begun map undamaged contents calls (Some run) state
       → HasParityOf last begun
   begun_parity stands kept is = cc
 

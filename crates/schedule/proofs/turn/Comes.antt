@@ -10,6 +10,7 @@ use Rattle.schedule.proofs.Words.{Work, ClientsAreAnswered, GoesOnFor, IsWorldOf
 use Rattle.schedule.proofs.Words.{AreGoing, HasContent, IsGoing, IsHoldOf, IsWorkFor, IsWorkOf, MakesCommit, Runs}
 use Rattle.schedule.proofs.Words.{call_of_client, calls_under_way, held_by, setting_now, HasDropCause, IsRightNext}
 use Rattle.schedule.proofs.Words.{TurnState, LeavesBegun, LeavesGoing, entry_for, made_in, TakesTurn, Comes, Past}
+use Rattle.schedule.proofs.Words.{undamaged}
 use Rattle.core_state.specs.declared.answer.Answer.TheVariants as answer
 use Rattle.core_state.specs.declared.item.Item.TheVariants.{Call as CallItem}
 use Rattle.schedule.specs.declared.client.Work.TheVariants as work
@@ -84,7 +85,7 @@ module _ {script : Script} {actor : ℕ} {before after : TurnState} {clients new
   abbrev pub StandsNow : {world : World} {past : Past} → Runs world script past before.state before.items clients
       → (ℕ → List ℕ) → Map → List HoldingCall → Type 0
   StandsNow runs contents map calls =
-      Stands (setting_now runs) runs.last runs.begun map contents calls runs.commit after.state
+      Stands (setting_now runs) runs.last runs.begun map undamaged contents calls runs.commit after.state
 
   -- This entry is right where it is listed, and with it this stands.
   abbrev pub IsListedNow : List HoldingCall → Entry → {world : World} {past : Past}
@@ -210,7 +211,7 @@ module _ {script : Script} {actor : ℕ} {before after : TurnState} {clients new
           let map = map_of world.handed world.opening before.items in (
             right world past runs,
             rw (no_block world.handed map (first_entry call actor before given)) (subst (Stands (setting_now runs)
-                runs.last runs.begun map runs.contents (calls_under_way clients) runs.commit)
+                runs.last runs.begun map undamaged runs.contents (calls_under_way clients) runs.commit)
                 (λ i. at_disk (sym core i) (sym disk i)) runs.stands),
           ))
 
@@ -389,7 +390,7 @@ module _ {script : Script} {actor : ℕ} {before after : TurnState} {clients new
 
     module _ {world : World} {past : Past} (runs : Runs world script past before.state before.items clients) where
       -- the one that stands.
-      pub its_stands : Stands (setting_now runs) runs.last runs.begun (map_of world.handed world.opening before.items)
+      pub its_stands : Stands (setting_now runs) runs.last runs.begun (map_of world.handed world.opening before.items) undamaged
           runs.contents (calls_under_way clients) (Some commit) before.state
       its_stands = rw (← commit_of runs.commit its_going commit_is only runs.theirs) runs.stands
 

@@ -6,7 +6,7 @@ use Rattle.schedule.proofs.Words.{map_of, map_after_answer, IsAnswerOf, IsAttach
 use Rattle.schedule.proofs.Words.{ScriptCall, Script, calls_of, map_grown_call, map_grown_group, AttachRun, CoreState}
 use Rattle.schedule.proofs.Words.{Stands, shown_of, Client, UnderWay, Work, Recorded, IsRightNext, IsBegunAt, HasBegun}
 use Rattle.schedule.proofs.Words.{HasContent, IsGoing, IsTheirs, MakesCommit, Runs, calls_under_way, setting_now, Past}
-use Rattle.schedule.proofs.Words.{IsListedWith}
+use Rattle.schedule.proofs.Words.{IsListedWith, undamaged}
 use Rattle.core_state.specs.declared.item.Group.{Group as GroupItem}
 use Rattle.core_state.specs.declared.item.Item.TheVariants.{Call as CallItem}
 use Rattle.schedule.specs.declared.client.Work.TheVariants as work
@@ -37,7 +37,7 @@ module _ {world : World} {script : Script} {past : Past} {index : ℕ} {start le
     grown = items ++ CallItem entry ∷ []
 
     abbrev StandsNow : Type 0
-    StandsNow = Stands (setting_now runs) runs.last runs.begun (map_after_answer world.handed map entry entry.answer)
+    StandsNow = Stands (setting_now runs) runs.last runs.begun (map_after_answer world.handed map entry entry.answer) undamaged
         runs.contents (calls_under_way news) commit after
 
     answered_with : IsTheirs news commit → StandsNow → Runs world script past after grown news
@@ -71,7 +71,7 @@ module _ {world : World} {script : Script} {past : Past} {index : ℕ} {start le
         from = next.uber.reflow.from;
         to = next.uber.reflow.to;
       })
-      (stands : Stands (setting_now runs) next [] map runs.contents (calls_under_way news) None after) where
+      (stands : Stands (setting_now runs) next [] map undamaged runs.contents (calls_under_way news) None after) where
     abbrev with_one : List Item
     with_one = items ++ Group group ∷ []
 

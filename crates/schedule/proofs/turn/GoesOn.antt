@@ -6,6 +6,7 @@ use Rattle.schedule.proofs.Words.{CommitRun, IsOnInUse, ScriptCall, Script, call
 use Rattle.schedule.proofs.Words.{attach_commit, CoreState, Stands, shown_in, shown_of, IsBeforeCommit, attach_beside}
 use Rattle.schedule.proofs.Words.{Client, UnderWay, Work, Past, Recorded, AreGoing, HasBegunBy, HasContent, IsClient}
 use Rattle.schedule.proofs.Words.{IsGoing, MakesCommit, Runs, calls_under_way, commit_in, setting_now, IsTheirs}
+use Rattle.schedule.proofs.Words.{undamaged}
 use Rattle.core_state.specs.declared.item.Group.{Group as GroupItem}
 use Rattle.schedule.specs.declared.client.Work.TheVariants as work
 use Rattle.schedule.proofs.turn.Going.{one_commit}
@@ -23,7 +24,7 @@ early_known setting now last next begun onward disk run before holds = grind ari
 -- Where the core has no commit under way, none stands,
 pub stands_idle : {world : World} {script : Script} {past : Past} {before : CoreState} {items : List Item}
     {clients : List Client} (runs : Runs world script past before items clients) → before.core.committing ≡ None
-    → (runs.commit ≡ None) × Stands (setting_now runs) runs.last runs.begun (map_of world.handed world.opening items)
+    → (runs.commit ≡ None) × Stands (setting_now runs) runs.last runs.begun (map_of world.handed world.opening items) undamaged
     runs.contents (calls_under_way clients) None before
 stands_idle runs idle = search (no_commit, arith)
 
@@ -71,7 +72,7 @@ module _ {world : World} {script : Script} {past : Past} {index : ℕ} {start le
   pub runs_with : {listed : List Item} {item : GroupItem} {reach : ℕ} {last : Kept} {begun : List Kept}
       {contents : ℕ → List ℕ} {commit : Option CommitRun}
       → Recorded world past listed item last (shown_of begun commit) after.disk
-      → Stands (record world.setting { reach = reach }) last begun (map_of world.handed world.opening listed) contents
+      → Stands (record world.setting { reach = reach }) last begun (map_of world.handed world.opening listed) undamaged contents
       (calls_under_way news) commit after → IsTheirs news commit → ((under : UnderWay) → client.under_way ≡ Some under
       → IsKnown world script listed item reach last begun after.disk (contents index) index client under)
       → ((other : ℕ) (its : Client) (under : UnderWay) → other ≢ index → IsGoing clients other its under
@@ -154,7 +155,7 @@ module _ {world : World} {script : Script} {past : Past} {index : ℕ} {start le
       → ((asked : ScriptCall) → slice_get (calls_of script index) (number - 1) ≡ Some asked
       → HasContent world items asked at (nows index) does) → IsAttached reach begun does
       → ((other : ℕ) → other ≢ index → nows other ≡ runs.contents other) → OthersKnown reach begun
-      → Stands (record world.setting { reach = reach }) runs.last begun map nows (calls_under_way news) commit after
+      → Stands (record world.setting { reach = reach }) runs.last begun map undamaged nows (calls_under_way news) commit after
       → Runs world script past after items news
   has_under {number} {at} {does} {begun} reach nows recorded theirs client_is since group content attached same others
       stands = runs_with recorded stands theirs
@@ -186,7 +187,7 @@ module _ {world : World} {script : Script} {past : Past} {index : ℕ} {start le
       → IsNoCommit old.under_way → (MakesCommit does → ⊥)
       → ((asked : ScriptCall) → slice_get (calls_of script index) (old.begun - 1) ≡ Some asked
       → HasContent world items asked under.at (runs.contents index) does)
-      → Stands (setting_now runs) runs.last runs.begun map runs.contents (calls_under_way news) runs.commit after
+      → Stands (setting_now runs) runs.last runs.begun map undamaged runs.contents (calls_under_way news) runs.commit after
       → Runs world script past after items news
   goes_on under attached others later since old_is client_is was_none no_commit has = has_under runs.reach
       runs.contents (recorded_goes runs.recorded later since) (commit_stays was changes runs.commit
@@ -201,7 +202,7 @@ module _ {world : World} {script : Script} {past : Past} {index : ℕ} {start le
       → HasBegunBy world items runs.item begun at does
       → ((asked : ScriptCall) → HasContent world items asked at (runs.contents index) does)
       → IsAttached reach begun does → OthersKnown reach begun
-      → Stands (record world.setting { reach = reach }) runs.last begun map runs.contents (calls_under_way news)
+      → Stands (record world.setting { reach = reach }) runs.last begun map undamaged runs.contents (calls_under_way news)
       (Some commit) after → Runs world script past after items news
   commit_runs {at = at} {does} reach commit recorded does_is client_is since group content attached =
       has_under reach runs.contents recorded (
@@ -219,7 +220,7 @@ module _ {world : World} {script : Script} {past : Past} {index : ℕ} {start le
       → HasBegunBy world items runs.item (next ∷ []) (length items) does
       → ((asked : ScriptCall) → HasContent world items asked (length items) (runs.contents index) does)
       → IsAttached reach (next ∷ []) does
-      → Stands (record world.setting { reach = reach }) runs.last (next ∷ []) map runs.contents (calls_under_way news)
+      → Stands (record world.setting { reach = reach }) runs.last (next ∷ []) map undamaged runs.contents (calls_under_way news)
       (Some run) after → Runs world script past after items news
   commit_begins reach run {next = next} none_begun no_commit does_is stage disk client_is group content attached =
       commit_runs reach run (search (no_commit, arith)) does_is client_is (inl refl) group content attached
@@ -233,7 +234,7 @@ module _ {world : World} {script : Script} {past : Past} {index : ℕ} {start le
       → client ≡ record { begun = old.begun + 1; under_way = Some (record { at = length items; work = does }) }
       → (MakesCommit does → ⊥) → ((asked : ScriptCall) → slice_get (calls_of script index) old.begun ≡ Some asked
       → HasContent world items asked (length items) content does)
-      → Stands (setting_now runs) runs.last runs.begun map (with_content runs.contents index content)
+      → Stands (setting_now runs) runs.last runs.begun map undamaged (with_content runs.contents index content)
       (calls_under_way news) runs.commit after → Runs world script past after items news
   begins content does attached idle disk client_is no_commit has = has_under runs.reach
       (with_content runs.contents index content) (search arith) (commit_stays was changes runs.commit
@@ -244,7 +245,7 @@ module _ {world : World} {script : Script} {past : Past} {index : ℕ} {start le
 
   -- A call waits.
   pub waits : old.under_way ≡ None → after.disk ≡ before.disk → client.under_way ≡ None
-      → Stands (setting_now runs) runs.last runs.begun map runs.contents (calls_under_way news) runs.commit after
+      → Stands (setting_now runs) runs.last runs.begun map undamaged runs.contents (calls_under_way news) runs.commit after
       → Runs world script past after items news
   waits idle disk still stands = runs_with {reach = runs.reach} (search arith) stands
       (commit_stays was changes runs.commit (idle_no_commit idle) (idle_no_commit still) runs.theirs) (search no_one)

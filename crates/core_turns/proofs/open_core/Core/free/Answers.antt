@@ -4,9 +4,9 @@ use Rattle.core_turns.proofs.open_core.Core.free.Goals as goal
 use Rattle.core_turns.proofs.open_core.Core.free.Goals.{in-Some, in-None}
 
 pub returns-clause-holds : goal.returns-clause-holds
-returns-clause-holds c = λ map disk holds.
+returns-clause-holds c = λ wrong map disk holds.
     let pool = pool_of c.self.inside.uber c.self.inside.blocks c.self.inside.out c.self.inside.done in
-    let old : HoldsMap map (state_of pool disk) = rw (← c.self.view_is) at holds in
+    let old : HoldsMap wrong map (state_of pool disk) = rw (← c.self.view_is) at holds in
     elim c.match-remove.branch [
       | in-Some w ↦ rw w.result-is (freed_holds map pool c.remove.new.self disk c.args.id c.remove.ensures.change old)
       | in-None w ↦ rw w.result-is (none_freed_holds map pool c.remove.new.self disk c.args.id c.remove.ensures.change

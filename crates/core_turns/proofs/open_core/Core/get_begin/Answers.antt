@@ -4,7 +4,7 @@ use Rattle.core_turns.proofs.read.Laws.{get_finds}
 use Rattle.core_turns.proofs.open_core.Core.get_begin.Goals as goal
 
 pub returns-clause-finds : goal.returns-clause-finds
-returns-clause-finds c = λ map disk holds. get_finds map _ _ disk c.args.actor c.args.id c.args.kind c.find_and_hold.result
+returns-clause-finds c = λ wrong map disk holds. get_finds wrong map _ _ disk c.args.actor c.args.id c.args.kind c.find_and_hold.result
     holds c.find_and_hold.ensures
 
 pub returns-clause-others : goal.returns-clause-others

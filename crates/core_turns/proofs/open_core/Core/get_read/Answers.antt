@@ -4,7 +4,7 @@ use Rattle.core_turns.proofs.read.Turns.{get_of_more, reads_reaching}
 use Rattle.core_turns.proofs.open_core.Core.get_read.Goals as goal
 
 pub returns-clause-keeps : goal.returns-clause-keeps
-returns-clause-keeps g c = λ content holds. get_reads_or_ends _ _ c.read_next_column.new.run c.read_next_column.result
+returns-clause-keeps g c = λ wrong content holds. get_reads_or_ends _ _ c.read_next_column.new.run c.read_next_column.result
     c.read_next_column.ensures.front c.requires.of c.read_next_column.ensures.place c.requires.left
     c.read_next_column.ensures.unchanged c.read_next_column.ensures.out holds c.read_next_column.ensures.reads
 
