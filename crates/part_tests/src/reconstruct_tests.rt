@@ -67,16 +67,27 @@ fn lost_columns_come_back_or_are_too_many(rt: HostRuntime) -> Result<(), AllocEr
     Ok(())
 }
 
-// Widths 3 and 4.
+// Width 4 after 3, while the pool is being widened, up to sector 167, and at rest.
 #[test]
 fn suspects_go_from_the_present_width_down(rt: HostRuntime) -> Result<(), AllocError> {
     let mut births = Births::first(3);
+    let widened = suspects(rt.alloc(), &births, 4, 167)?;
     births.add(9);
-    let pairs = suspects(rt.alloc(), &births, 4)?;
+    let at_rest = suspects(rt.alloc(), &births, 4, 0)?;
     let wanted = [(4, 0), (4, 1), (4, 2), (4, 3), (3, 0), (3, 1), (3, 2)];
-    assert!(rt; pairs.len() == wanted.len());
-    for (pair, (width, device)) in pairs.iter().zip(wanted) {
-        assert_eq!(rt; *pair, Pair { width, device });
+    for (pairs, mark_of_4) in [(&widened, 167), (&at_rest, u64::MAX)] {
+        assert!(rt; pairs.len() == wanted.len());
+        for (pair, (width, device)) in pairs.iter().zip(wanted) {
+            let mark = if width == 4 { mark_of_4 } else { u64::MAX };
+            assert_eq!(rt;
+                *pair,
+                Pair {
+                    width,
+                    device,
+                    mark
+                }
+            );
+        }
     }
     Ok(())
 }
@@ -90,7 +101,7 @@ fn a_spoiled_device_is_found_by_the_digest(rt: HostRuntime) -> Result<(), AllocE
     let mut rows = encode(rt.alloc(), &layout, &bytes)?;
     *rows.column_mut(0, 2) = [0xee; 512];
     *rows.column_mut(1, 2) = [0xee; 512];
-    let pairs = suspects(rt.alloc(), &Births::first(4), 4)?;
+    let pairs = suspects(rt.alloc(), &Births::first(4), 4, 0)?;
     for (lost, pairs, comes_back) in [
         ([0b0100, 0b0100], &pairs[..0], true),
         ([0b0000, 0b0000], &pairs[..0], false),
@@ -106,6 +117,31 @@ fn a_spoiled_device_is_found_by_the_digest(rt: HostRuntime) -> Result<(), AllocE
             );
         } else {
             assert!(rt; matches!(found, Err(CheckRefused::Damaged)), "{lost:?}");
+        }
+    }
+    Ok(())
+}
+
+// Row 0 was read at width 4, the others at width 3, so device 1 had the sectors 305, 307 and 310.
+#[test]
+fn a_device_spoiled_while_the_pool_is_widened_is_found(rt: HostRuntime) -> Result<(), AllocError> {
+    let layout = Layout::of(303, 5, 1, 3);
+    let bytes = block();
+    let digest = Sha256::digest(&bytes);
+    let mut rows = encode(rt.alloc(), &layout, &bytes)?;
+    *rows.column_mut(0, 2) = [0xee; 512];
+    *rows.column_mut(1, 1) = [0xee; 512];
+    let births = Births::first(3);
+    for (mark, comes_back) in [(306, true), (0, false), (309, false)] {
+        let pairs = suspects(rt.alloc(), &births, 4, mark)?;
+        let found = decode_checked(rt.alloc(), &layout, &rows, LEN, &[0, 0, 0], &digest, &pairs);
+        if comes_back {
+            assert!(rt;
+                found.is_ok_and(|found| found.as_slice() == bytes.as_slice()),
+                "{mark}"
+            );
+        } else {
+            assert!(rt; matches!(found, Err(CheckRefused::Damaged)), "{mark}");
         }
     }
     Ok(())

@@ -9,7 +9,11 @@ pub mod Masks
 pub mod Suspected
 pub mod RowSolved
 pub mod SolvedRows
+pub mod ContentSectors
 pub mod Solution
-pub mod SameBytes
 pub mod Telling
 pub mod Choices
+pub mod SameBytes
+pub mod AllContent
+pub mod Covered
+pub mod SameColumns

@@ -1,11 +1,10 @@
 -- Bytes that are filled up with zeros are the same block.
-use Rattle.std.proofs.Common.{◌≡◌, ℕ, zero, suc, ◌+◌, ◌-◌, ◌*◌, ◌<◌, ◌≤◌, List, [], ◌∷◌, ◌++◌, length, Bool, refl, sym}
+use Rattle.std.proofs.Common.{◌≡◌, ℕ, zero, suc, ◌+◌, ◌-◌, ◌*◌, ◌<◌, List, [], ◌∷◌, ◌++◌, length, Bool, refl, sym}
 use Rattle.std.proofs.Common.{◌∙◌, ap, arith, ⊎_elim}
-use Rattle.std.specs.Prelude.{take, drop, replicate, slice_index}
+use Rattle.std.specs.Prelude.{drop, replicate, slice_index}
 use Rattle.std.proofs.lemmas.Bool.{cases_lt}
 use Rattle.std.proofs.lemmas.Grind.{same_number_lists}
 use Rattle.std.proofs.lemmas.List.{get_or_append_left, get_or-append-add, get_or-take, get_or-drop, get_or_past}
-use Rattle.std.proofs.lemmas.List.{length-take}
 use Rattle.gf_parity.specs.Parity.{parity_column}
 use Rattle.gf_solve.proofs.Restored.{zero_there}
 use Rattle.row_layout.specs.declared.column.Part.{Part}
@@ -22,12 +21,6 @@ zeros_behind bytes count at =
     (λ behind. let shift : at ≡ length bytes + (at - length bytes) = omega (arith, behind) in
     ap (slice_index (bytes ++ replicate count 0)) shift ∙ get_or-append-add bytes (replicate count 0) (at - length bytes) 0
     ∙ zero_there count (at - length bytes) ∙ sym (get_or_past bytes at 0 behind)) (cases_lt at (length bytes))
-
--- Bytes behind which there are zeros alone can be cut off there.
-pub zeros_cut : (bytes : List ℕ) (len : ℕ) → ((at : ℕ) → len ≤ at → slice_index bytes at ≡ 0) → (at : ℕ) → slice_index (take len bytes) at ≡ slice_index bytes at
-zeros_cut bytes len zeros at =
-    ⊎_elim (λ inside. get_or-take len bytes at 0 inside)
-    (λ behind. get_or_past (take len bytes) at 0 (omega (arith, behind, length-take len bytes)) ∙ sym (zeros at behind)) (cases_lt at len)
 
 -- A sector's byte is the block's there, or zero behind its end.
 sector_at : (bytes : List ℕ) (number at : ℕ) → at < 512 → slice_index (content_sector bytes number) at ≡ slice_index bytes (512 * number + at)

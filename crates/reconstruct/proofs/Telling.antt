@@ -1,63 +1,65 @@
--- What whole sectors that were told say of the bytes in them.
-use Rattle.std.proofs.Common.{◌≡◌, ℕ, ◌-◌, ◌*◌, ◌<◌, ◌≤◌, List, ◌++◌, false, IsTrue, length, length-append, sym, ◌∙◌}
-use Rattle.std.proofs.Common.{ap, subst, arith}
-use Rattle.std.specs.Prelude.{take, replicate, slice_index}
-use Rattle.std.proofs.lemmas.List.{get_or_past, take_all, length-take, length-replicate}
-use Rattle.std.proofs.Math.Seq.{take-append_seam}
+-- What whole sectors that were told say of the bytes that they begin with.
+use Rattle.std.proofs.Common.{◌≡◌, ℕ, ◌*◌, ◌<◌, List, false, Bool, IsTrue, length, refl, sym, ◌∙◌, ap, subst, arith}
+use Rattle.std.specs.Prelude.{take}
+use Rattle.std.proofs.lemmas.List.{take_all}
 use Rattle.sha2.specs.Sha256.{sha256}
 use Rattle.row_layout.specs.Layout.{Layout, rows_of}
-use Rattle.reconstruct.specs.Rows.{sectors_for}
 use Rattle.reconstruct.specs.Lost.{AreBytes, HasTooFew, IsFirstTooFew}
-use Rattle.reconstruct.specs.Solved.{Columns, is_masked_lost, IsPassedOver, IsSolution, BeginsSolution, TellsBytes}
-use Rattle.reconstruct.proofs.SameBytes.{zeros_behind, zeros_cut, solution_alike}
+use Rattle.reconstruct.specs.Solved.{Columns, is_masked_lost, IsPassedOver, IsSolution, BeginsSolution, TellsSectors}
+use Rattle.reconstruct.specs.Solved.{TellsBytes}
 
 pub never : IsTrue false → ⊥
 never is = absurd cc
 
 -- Rows of which one has too few columns left are passed over, and no others.
-pub passed_over : (layout : Layout) (masks : List ℕ) (row : ℕ) → IsFirstTooFew layout masks row → IsPassedOver layout (is_masked_lost masks)
+pub passed_over : (layout : Layout) (masks : List ℕ) (row : ℕ) → IsFirstTooFew layout masks row
+    → IsPassedOver layout (is_masked_lost masks)
 passed_over layout masks row few = record { row = row; row_in = few.row_in; many = few.here }
 
-not_passed : (layout : Layout) (masks : List ℕ) → ((row : ℕ) → row < rows_of layout → HasTooFew layout masks row → ⊥) → IsPassedOver layout (is_masked_lost masks) → ⊥
+not_passed : (layout : Layout) (masks : List ℕ)
+    → ((row : ℕ) → row < rows_of layout → HasTooFew layout masks row → ⊥)
+    → IsPassedOver layout (is_masked_lost masks) → ⊥
 not_passed layout masks enough passed = enough passed.row passed.row_in passed.many
 
-module _ (layout : Layout) (columns : Columns) (masks : List ℕ) (len : ℕ) (sha whole : List ℕ) (sectors : sectors_for len ≡ layout.sectors)
-    (whole_long : length whole ≡ 512 * layout.sectors) where
-  -- Whole sectors with nothing but zeros behind the bytes tell the bytes.
-  pub tells : ((row : ℕ) → row < rows_of layout → HasTooFew layout masks row → ⊥) → BeginsSolution layout columns (is_masked_lost masks) whole
-      → ((at : ℕ) → len ≤ at → slice_index whole at ≡ 0) → AreBytes (take len whole) → sha256 (take len whole) ≡ sha
-      → TellsBytes layout columns (is_masked_lost masks) len sha (take len whole)
-  tells enough begins zeros all digest = record {
-    enough = not_passed layout masks enough;
-    solves =
-        solution_alike layout whole (take len whole) (record { at = λ place. sym (zeros_cut whole len zeros place) }) columns (is_masked_lost masks) (512 * layout.sectors) len
-        (omega (arith, length-take len whole, whole_long, sectors))
-        (subst (λ (k : List ℕ). IsSolution layout columns (is_masked_lost masks) (512 * layout.sectors) k) is_whole begins.solves);
+-- Whole sectors that begin a solution are one, and the only one where each solution is they.
+pub tells_sectors : (layout : Layout) (columns : Columns) (masks : List ℕ) (len : ℕ) (whole : List ℕ)
+    → len ≡ 512 * layout.sectors → length whole ≡ len
+    → ((row : ℕ) → row < rows_of layout → HasTooFew layout masks row → ⊥)
+    → BeginsSolution layout columns (is_masked_lost masks) whole
+    → ((wanted : List ℕ) → AreBytes wanted → IsSolution layout columns (is_masked_lost masks) len wanted
+    → whole ≡ wanted)
+    → TellsSectors layout columns (is_masked_lost masks) whole
+tells_sectors layout columns masks len whole len_is long enough begins serves = record {
+  enough = not_passed layout masks enough;
+  solves =
+      subst (λ (k : List ℕ). IsSolution layout columns (is_masked_lost masks) (512 * layout.sectors) k) is_whole
+      begins.solves;
+  alone = λ other all solution.
+      sym (serves other all
+      (subst (λ (k : ℕ). IsSolution layout columns (is_masked_lost masks) k other) (sym len_is) solution));
+}
+  where
+    is_whole : begins.whole ≡ whole
+    is_whole =
+        sym (take_all (length whole) begins.whole (omega (arith, begins.solves.wide, long, len_is))) ∙ begins.begins
+
+module _ (layout : Layout) (columns : Columns) (lost : ℕ → ℕ → Bool) (len : ℕ) (sha whole : List ℕ)
+    (told : TellsSectors layout columns lost whole) where
+  -- Whole sectors tell the bytes that they begin with.
+  pub tells : AreBytes whole → sha256 (take len whole) ≡ sha → TellsBytes layout columns lost len sha (take len whole)
+  tells all digest = record {
+    enough = told.enough;
+    whole = whole;
+    solves = told.solves;
     are_bytes = all;
+    begins = refl;
     digest = digest;
   }
-    where
-      is_whole : begins.whole ≡ whole
-      is_whole = sym (take_all (length whole) begins.whole (omega (arith, begins.solves.wide, whole_long))) ∙ begins.begins
 
-  module _ (serves : (wanted : List ℕ) → AreBytes wanted → IsSolution layout columns (is_masked_lost masks) (512 * layout.sectors) wanted → whole ≡ wanted)
-      (bytes : List ℕ) (told : TellsBytes layout columns (is_masked_lost masks) len sha bytes) where
-    -- Where bytes are told, the whole sectors are these, filled up with zeros.
-    filled : whole ≡ bytes ++ replicate (512 * layout.sectors - len) 0
-    filled =
-        serves (bytes ++ replicate (512 * layout.sectors - len) 0) (λ at. rw (zeros_behind bytes (512 * layout.sectors - len) at) (told.are_bytes at))
-        (solution_alike layout bytes (bytes ++ replicate (512 * layout.sectors - len) 0)
-        (record { at = λ place. sym (zeros_behind bytes (512 * layout.sectors - len) place) }) columns (is_masked_lost masks) len (512 * layout.sectors)
-        (length-append bytes (replicate (512 * layout.sectors - len) 0) ∙ omega (arith, length-replicate {A = ℕ} (512 * layout.sectors - len) 0, told.solves.wide, sectors))
-        told.solves)
+  -- Where bytes are told, the whole sectors begin with them.
+  pub told_alone : (bytes : List ℕ) → TellsBytes layout columns lost len sha bytes → bytes ≡ take len whole
+  told_alone bytes tells =
+      sym tells.begins ∙ ap (λ (k : List ℕ). take len k) (told.alone tells.whole tells.are_bytes tells.solves)
 
-    pub told_zeros : (at : ℕ) → len ≤ at → slice_index whole at ≡ 0
-    told_zeros at behind =
-        ap (λ (k : List ℕ). slice_index k at) filled ∙ zeros_behind bytes (512 * layout.sectors - len) at
-        ∙ get_or_past bytes at 0 (omega (arith, behind, told.solves.wide))
-
-    pub told_digest : sha256 (take len whole) ≡ sha
-    told_digest =
-        ap (λ (k : List ℕ). sha256 (take len k)) filled
-        ∙ ap (λ (k : ℕ). sha256 (take k (bytes ++ replicate (512 * layout.sectors - len) 0))) (sym told.solves.wide)
-        ∙ ap sha256 (take-append_seam bytes (replicate (512 * layout.sectors - len) 0)) ∙ told.digest
+  pub told_digest : (bytes : List ℕ) → TellsBytes layout columns lost len sha bytes → sha256 (take len whole) ≡ sha
+  told_digest bytes tells = ap sha256 (sym (told_alone bytes tells)) ∙ tells.digest

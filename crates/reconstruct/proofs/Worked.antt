@@ -1,11 +1,12 @@
 -- Worked rows of encoding and of suspects.
-use Rattle.std.proofs.Common.{◌≡◌, ◌<◌, ℕ, zero, suc, [], ◌∷◌, ◌++◌, refl, arith, inl, inr}
+use Rattle.std.proofs.Common.{◌≡◌, ◌<◌, ℕ, zero, suc, [], ◌∷◌, ◌++◌, true, refl, arith, inl, inr}
 use Rattle.std.specs.Prelude.{replicate}
 use Rattle.row_layout.specs.Layout.{Layout, columns_in}
 use Rattle.gf_parity.specs.Parity.{p_of, parity_column}
 use Rattle.width_map.specs.Births.{first_births, births_after}
 use Rattle.reconstruct.specs.Columns.{content_sector, column_bytes}
-use Rattle.reconstruct.specs.Suspects.{suspects_of, IsTriedBefore}
+use Rattle.reconstruct.specs.declared.pair.Pair.{Pair}
+use Rattle.reconstruct.specs.Suspects.{suspects_of, is_suspect, reach_of, IsTriedBefore}
 use Rattle.reconstruct.specs.Solved.{Columns, is_lost, IsPassedOver}
 use Rattle.gf_solve.specs.Row.{count_lost}
 
@@ -21,11 +22,34 @@ parity_of_abc : column_bytes abc (0x61 ∷ 0x62 ∷ 0x63 ∷ []) 0 0 ≡ (0x61 �
 unfolding abc column_bytes content_sector parity_column p_of
 parity_of_abc = refl
 
--- widths 4 and 3: the devices of 4 first, then those of 3
-suspects_of_two : suspects_of (births_after (first_births 3) 9) 4 ≡
-    record { width = 4; device = 0 } ∷ record { width = 4; device = 1 } ∷ record { width = 4; device = 2 } ∷ record { width = 4; device = 3 }
-    ∷ record { width = 3; device = 0 } ∷ record { width = 3; device = 1 } ∷ record { width = 3; device = 2 } ∷ []
-suspects_of_two = refl
+-- a pair of this width and device, and of none narrower
+pair : ℕ → ℕ → Pair
+pair width device = record { width = width; device = device; mark = 18446744073709551615 }
+
+-- from 3 devices to 4, the mark at 167: those of 4 first, one narrower above the mark, then those of 3
+suspects_while_widened : suspects_of (first_births 3) 4 167 ≡
+    record { width = 4; device = 0; mark = 167 } ∷ record { width = 4; device = 1; mark = 167 }
+    ∷ record { width = 4; device = 2; mark = 167 } ∷ record { width = 4; device = 3; mark = 167 }
+    ∷ pair 3 0 ∷ pair 3 1 ∷ pair 3 2 ∷ []
+unfolding pair
+suspects_while_widened = refl
+
+-- with 4 devices at rest, 3 before
+suspects_at_rest : suspects_of (births_after (first_births 3) 9) 4 0
+    ≡ pair 4 0 ∷ pair 4 1 ∷ pair 4 2 ∷ pair 4 3 ∷ pair 3 0 ∷ pair 3 1 ∷ pair 3 2 ∷ []
+unfolding pair
+suspects_at_rest = refl
+
+-- Sector 166 stood on device 2 of 4 where its row ended at 167, and on device 1 of 3 where it ended behind.
+read_at_new_place : is_suspect 167 166 (record { width = 4; device = 2; mark = 167 }) ≡ true
+read_at_new_place = refl
+
+read_at_old_place : is_suspect 168 166 (record { width = 4; device = 1; mark = 167 }) ≡ true
+read_at_old_place = refl
+
+-- Of 200 suspects a choice takes one from all, two from the first 136, three from the first 31.
+reaches : (reach_of 200 1 ≡ 200) × (reach_of 200 2 ≡ 136) × (reach_of 200 3 ≡ 31)
+reaches = (refl, refl, refl)
 
 -- The empty choice comes first, a pair after each single one, and pairs by their first place.
 empty_first : IsTriedBefore [] (0 ∷ [])

@@ -6,3 +6,4 @@ pub mod SolvedRow
 pub mod Suspects
 pub mod Solved
 pub mod Tried
+pub mod Covered

@@ -20,6 +20,11 @@ abbrev pub AreWide : List (List ℕ) → Type 0
 AreWide columns = (place : ℕ) → place < length columns
     → length (slice_index_or columns place []) ≡ 512
 
+-- The list has as many columns as the rows, each of 512 bytes.
+pub record AreFull (rows : Rows) : Type 0 where
+  pub count : length rows.columns ≡ rows.rows * rows.cols
+  pub wide : AreWide rows.columns
+
 -- these rows with other bytes in one column
 abbrev pub with_column : Rows → ℕ → ℕ → List ℕ → Rows
 with_column rows row column bytes =

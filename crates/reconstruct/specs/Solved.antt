@@ -4,7 +4,7 @@ use Rattle.std.specs.Prelude.{◌||◌, ◌==◌}
 use Rattle.sha2.specs.Sha256.{sha256}
 use Rattle.gf_solve.specs.Row.{is_masked, count_lost}
 use Rattle.gf_solve.specs.Serving.{Serves}
-use Rattle.row_layout.specs.Layout.{Layout, IsColumn, rows_of, sector_of, columns_in}
+use Rattle.row_layout.specs.Layout.{Layout, IsColumn, rows_of, end_of, sector_of, columns_in}
 use Rattle.reconstruct.specs.declared.pair.Pair.{Pair}
 use Rattle.reconstruct.specs.Columns.{column_bytes}
 use Rattle.reconstruct.specs.Rows.{Rows, column_at}
@@ -28,8 +28,8 @@ is_masked_lost masks row column = is_masked (slice_index masks row) column
 -- The column couldn't be read, or a pair of the choice suspects it.
 abbrev pub is_lost : Layout → Columns → List Pair → Choice → ℕ → ℕ → Bool
 is_lost layout columns suspects choice row column =
-    ((columns.lost row / 2 ^ column) % 2 == 1) || suspects_sector suspects choice
-    (sector_of layout row column)
+    ((columns.lost row / 2 ^ column) % 2 == 1)
+    || suspects_sector suspects choice (end_of layout row) (sector_of layout row column)
 
 -- More columns of a row are lost than there is parity.
 pub record IsPassedOver (layout : Layout) (lost : ℕ → ℕ → Bool) : Type 0 where
@@ -61,12 +61,22 @@ pub record BeginsSolution (layout : Layout) (columns : Columns) (lost : ℕ → 
   pub begins : take (length bytes) whole ≡ bytes
   pub solves : IsSolution layout columns lost (512 * layout.sectors) whole
 
--- The columns that aren't lost are enough to tell these bytes, which have the digest.
+-- The columns that aren't lost are enough to tell whole sectors, and they tell these alone.
+pub record TellsSectors (layout : Layout) (columns : Columns) (lost : ℕ → ℕ → Bool)
+    (whole : List ℕ) : Type 0 where
+  pub enough : IsPassedOver layout lost → ⊥
+  pub solves : IsSolution layout columns lost (512 * layout.sectors) whole
+  pub alone : (other : List ℕ) → AreBytes other
+      → IsSolution layout columns lost (512 * layout.sectors) other → other ≡ whole
+
+-- The columns that aren't lost are enough to tell whole sectors that begin with these bytes, which have the digest.
 pub record TellsBytes (layout : Layout) (columns : Columns) (lost : ℕ → ℕ → Bool) (len : ℕ)
     (sha bytes : List ℕ) : Type 0 where
   pub enough : IsPassedOver layout lost → ⊥
-  pub solves : IsSolution layout columns lost len bytes
-  pub are_bytes : AreBytes bytes
+  pub whole : List ℕ
+  pub solves : IsSolution layout columns lost (512 * layout.sectors) whole
+  pub are_bytes : AreBytes whole
+  pub begins : take len whole ≡ bytes
   pub digest : sha256 bytes ≡ sha
 
 -- what is asked: a block's columns, length and digest, and the suspects
@@ -87,22 +97,25 @@ question_with layout rows masks len sha suspects = record {
   suspects = suspects;
 }
 
+-- what is lost for a choice
+abbrev pub lost_by : Question → Choice → ℕ → ℕ → Bool
+lost_by question choice = is_lost question.layout question.columns question.suspects choice
+
 -- The columns that a choice leaves tell these bytes.
 abbrev pub Told : Question → Choice → List ℕ → Type 0
 Told question choice bytes =
-    TellsBytes question.layout question.columns
-    (is_lost question.layout question.columns question.suspects choice) question.len question.sha
-    bytes
+    TellsBytes question.layout question.columns (lost_by question choice) question.len question.sha bytes
 
 -- A choice gives these bytes, which have the digest.
 pub record ChoiceGives (question : Question) (choice : Choice) (bytes : List ℕ) : Type 0 where
   pub choice_is : IsSuspectChoice question.suspects question.layout.parity choice
   pub told : Told question choice bytes
 
--- the answer: the bytes of the first choice that gives any
+-- the answer: the bytes of the first choice that gives any, which gives no others
 pub record IsDecoded (question : Question) (bytes : List ℕ) : Type 0 where
   pub choice : Choice
   pub given : ChoiceGives question choice bytes
+  pub alone : (other : List ℕ) → ChoiceGives question choice other → other ≡ bytes
   pub first : (other : Choice) (wrong : List ℕ) → IsTriedBefore other choice
       → ChoiceGives question other wrong → ⊥
 

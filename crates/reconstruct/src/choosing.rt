@@ -1,9 +1,9 @@
 // Choices of suspects, tried one after the other.
 
-ghost use Rattle.std.specs.Prelude.{◌≡◌, length, IfOk, IfSome, IfNone, IsErrOf};
+ghost use Rattle.std.specs.Prelude.{◌≡◌, ◌≤◌, length, IfOk, IfSome, IfNone, IsErrOf};
 ghost use Rattle.row_layout.specs.Layout.{rows_of};
 ghost use Rattle.reconstruct.specs.Rows.{IsShaped, sectors_for};
-ghost use Rattle.reconstruct.specs.Suspects.{AreInside};
+ghost use Rattle.reconstruct.specs.Suspects.{AreInside, reach_of};
 ghost use Rattle.reconstruct.specs.Solved.{question_with, IsDecoded, IsDamaged};
 ghost use Rattle.reconstruct.specs.Tried.{IsFirstTold, NoneTold};
 ghost use Rattle.reconstruct.specs.declared.refusal.CheckRefused.TheVariants.{Damaged};
@@ -14,7 +14,14 @@ use crate::{CheckRefused, Pair, Rows};
 use row_layout::Layout;
 use std::alloc::{AllocError, Global};
 
-/// What is asked of a block: bytes of this length and digest, from its columns.
+/// A choice of two suspects takes them from so many, the first ones of the list.
+pub const PAIRS_FOR_TWO: usize = 136;
+
+/// A choice of three takes them from so many.
+pub const PAIRS_FOR_THREE: usize = 31;
+
+/// What is asked of a block: bytes of this length and digest, from its columns. Of the suspects the
+/// first `reach` ones may be chosen.
 #[derive(Drop)]
 struct Search<'a> {
     layout: &'a Layout,
@@ -22,6 +29,19 @@ struct Search<'a> {
     len: usize,
     digest: &'a [u8; 32],
     suspects: &'a [Pair],
+    reach: usize,
+}
+
+/// How many of so many suspects, the first ones, a choice of this size is taken from.
+fn reach(count: usize, size: u32) -> usize
+    ensures value { result ≡ reach_of count size }
+    ensures inside { result ≤ count }
+{
+    match size {
+        2 => count.min(PAIRS_FOR_TWO),
+        3 => count.min(PAIRS_FOR_THREE),
+        _ => count,
+    }
 }
 
 /// The first of the choices of so many `more` suspects, at `from` or behind, that tells bytes with
@@ -37,12 +57,13 @@ fn try_choices(
     requires shape { IsShaped search.now.layout.now search.now.rows.now }
     requires masks { length lost.now ≡ rows_of search.now.layout.now }
     requires pairs { AreInside search.now.suspects.now }
+    requires reach { search.now.reach ≤ length search.now.suspects.now }
     ensures some { IfOk result (λ found. IfSome found (λ bytes. IsFirstTold
         (question_with search.now.layout.now search.now.rows.now lost.now search.now.len
-        search.now.digest.now search.now.suspects.now) from more bytes.items)) }
+        search.now.digest.now search.now.suspects.now) search.now.reach from more bytes.items)) }
     ensures none { IfOk result (λ found. IfNone found (NoneTold
         (question_with search.now.layout.now search.now.rows.now lost.now search.now.len
-        search.now.digest.now search.now.suspects.now) from more)) }
+        search.now.digest.now search.now.suspects.now) search.now.reach from more)) }
 {
     if more == 0 {
         return decode_matching(
@@ -54,7 +75,7 @@ fn try_choices(
             search.digest,
         );
     }
-    for place in from..search.suspects.len() {
+    for place in from..search.reach {
         let fewer = with_suspect(alloc, search.layout, lost, &search.suspects[place])?;
         if let Some(bytes) = try_choices(alloc, search, &fewer, place + 1, more - 1)? {
             return Ok(Some(bytes));
@@ -85,14 +106,15 @@ pub fn decode_checked(
     ensures cause_damaged { IsErrOf result Damaged → IsDamaged
         (question_with layout.now rows.now lost.now len digest.now suspects.now) }
 {
-    let search = Search {
-        layout,
-        rows,
-        len,
-        digest,
-        suspects,
-    };
     for size in 0..layout.parity() + 1 {
+        let search = Search {
+            layout,
+            rows,
+            len,
+            digest,
+            suspects,
+            reach: reach(suspects.len(), size),
+        };
         if let Some(bytes) = try_choices(alloc, &search, lost, 0, size)? {
             return Ok(bytes);
         }

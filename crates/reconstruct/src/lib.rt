@@ -19,6 +19,7 @@ mod rows;
 mod sectors;
 mod suspecting;
 
+pub use checking::decode_matching;
 pub use choosing::decode_checked;
 pub use decoding::decode;
 pub use encoding::encode;

@@ -1,7 +1,7 @@
 // A block's bytes from its content columns.
 
 ghost use Rattle.std.specs.Prelude.{◌≡◌, List, ℕ, length, IfOk};
-ghost use Rattle.reconstruct.specs.Rows.{AreWide, IsShaped, IsEncoded, HoldsContent, IsContent, sectors_for};
+ghost use Rattle.reconstruct.specs.Rows.{AreFull, IsShaped, IsEncoded, HoldsContent, IsContent, sectors_for};
 
 use crate::Rows;
 use row_layout::Layout;
@@ -24,7 +24,7 @@ pub fn content(
         → HoldsContent layout.now wanted rows.now → bytes.items ≡ wanted) }
     ensures encoded { IfOk result (λ bytes. (wanted : List ℕ) → length wanted ≡ len
         → IsEncoded layout.now wanted rows.now → bytes.items ≡ wanted) }
-    ensures wide { IfOk result (λ _bytes. AreWide rows.now.columns) }
+    ensures full { IfOk result (λ _bytes. AreFull rows.now) }
 {
     let mut bytes = Vec::with_capacity(alloc, len)?;
     for number in 0..layout.sectors() {

@@ -3,7 +3,7 @@
 ghost use Rattle.std.specs.Prelude.{◌≡◌, ℕ, List, ◌+◌, ◌*◌, ◌<◌, [], length, slice_index_or, IfOk};
 ghost use Rattle.row_layout.specs.Layout.{rows_of, columns_of};
 ghost use Rattle.reconstruct.specs.Columns.{zero_sector};
-ghost use Rattle.reconstruct.specs.Rows.{column_at, with_column, AreWide, IsShaped, IsColumnWritten};
+ghost use Rattle.reconstruct.specs.Rows.{column_at, with_column, AreFull, AreWide, IsShaped, IsColumnWritten};
 
 use crate::sectors::zero_columns;
 use row_layout::Layout;
@@ -81,7 +81,7 @@ impl Rows {
         requires column { column < self.now.cols }
         ensures value { result.now ≡ column_at self.now row column }
         ensures wide { length result.now ≡ 512 }
-        ensures all_wide { AreWide self.now.columns }
+        ensures full { AreFull self.now }
     {
         one_of(&self.columns, row as usize * self.cols + column as usize)
     }

@@ -11,7 +11,6 @@ decreases-try_choices l = l.more
 -- No choice that begins before the place tells.
 abbrev pub invariant-loop-place : goal.invariant-loop-place
 invariant-loop-place l =
-    (choice : Choice) (bytes : List ℕ)
-    → IsPick (question_with l.search.layout.now l.search.rows.now l.lost l.search.len l.search.digest.now l.search.suspects.now) l.from l.more choice
-    → StartsBelow l.place choice
-    → Told (question_with l.search.layout.now l.search.rows.now l.lost l.search.len l.search.digest.now l.search.suspects.now) choice bytes → ⊥
+    (choice : Choice) (bytes : List ℕ) → IsPick l.search.reach l.from l.more choice → StartsBelow l.place choice
+    → Told (question_with l.search.layout.now l.search.rows.now l.lost l.search.len l.search.digest.now
+    l.search.suspects.now) choice bytes → ⊥

@@ -1,4 +1,5 @@
-use Rattle.std.proofs.Common.{ℕ, ◌<◌}
+use Rattle.std.proofs.Common.{ℕ, ◌<◌, length}
+use Rattle.reconstruct.specs.Suspects.{reach_of}
 use Rattle.reconstruct.specs.Solved.{question_with}
 use Rattle.reconstruct.specs.Tried.{NoneTold}
 use Rattle.reconstruct.proofs.choosing.decode_checked.Given as goal
@@ -6,4 +7,6 @@ use Rattle.reconstruct.proofs.choosing.decode_checked.Given as goal
 -- no smaller choice tells
 abbrev pub invariant-loop-size : goal.invariant-loop-size
 invariant-loop-size l =
-    (size : ℕ) → size < l.size → NoneTold (question_with l.layout l.rows l.lost l.len l.digest l.suspects) 0 size
+    (size : ℕ) → size < l.size
+    → NoneTold (question_with l.layout l.rows l.lost l.len l.digest l.suspects) (reach_of (length l.suspects) size) 0
+    size

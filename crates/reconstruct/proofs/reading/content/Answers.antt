@@ -11,7 +11,7 @@ loop-number-preserved c = record {
       one_more c.args.layout.now c.args.rows.now c.loop-number.bytes.items c.extend_from_slice.new.self.items c.column-column.result.now c.loop-number.number
       c.holder-holder.result.row c.holder-holder.result.column c.min.result c.sectors-number-end.ensures.within.is (omega arith) (omega arith) (omega arith)
       c.column-column.ensures.value c.in_ok-extend_from_slice.ensures.items c.holder-holder.ensures.place c.loop-number.invariant.value;
-  wide = λ some. c.column-column.ensures.all_wide;
+  full = λ some. c.column-column.ensures.full;
 }
 
 pub returns-clause-back : goal.returns-clause-back
