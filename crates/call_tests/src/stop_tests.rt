@@ -57,7 +57,8 @@ fn spoiled_sectors_are_passed_over_or_told(rt: HostRuntime) -> Result<(), Fail> 
         (0, 2, 64, read),
         (0, 3, 64, older),
         (0, 1, 192, read),
-        (1, 2, 192, damaged),
+        (1, 2, 192, read),
+        (0, 2, 192, damaged),
     ] {
         let mut bank = call(&rt, alloc, RUN, bank_of_nine(alloc)?, PUT)?.bank;
         for device in first..end {

@@ -1,7 +1,7 @@
 -- Where few devices are out, no row has lost too much.
-use Rattle.std.proofs.Common.{◌≡◌, ◌≢◌, ⊎_elim, ℕ, zero, suc, ◌+◌, ◌-◌, ◌%◌, ◌^◌, ◌<◌, ◌≤◌, List, Bool, true, false}
+use Rattle.std.proofs.Common.{◌≡◌, ◌≢◌, ⊎_elim, ℕ, zero, suc, ◌+◌, ◌-◌, ◌%◌, ◌<◌, ◌≤◌, Bool, true, false}
 use Rattle.std.proofs.Common.{refl, sym, ◌∙◌, ap, arith}
-use Rattle.std.specs.Prelude.{◌&&◌, ◌==◌, not, slice_index, EachIndex, length, if◌then◌else◌}
+use Rattle.std.specs.Prelude.{◌&&◌, ◌==◌, not, if◌then◌else◌}
 use Rattle.std.proofs.lemmas.Bool.{cases_lt, true≢false}
 use Rattle.std.proofs.lemmas.Bool.Decides.{nat_tests}
 use Rattle.std.proofs.Math.Nat.{mod-lt}
@@ -9,20 +9,18 @@ use Rattle.reflow_mark.specs.declared.reflow.Reflow.{Reflow}
 use Rattle.reflow_mark.specs.declared.stand.Stand.{Stand}
 use Rattle.reflow_mark.specs.declared.stand.Stand.TheVariants.{Old, Scratch, New}
 use Rattle.reflow_mark.specs.Standing.{standing}
-use Rattle.row_layout.specs.Layout.{Layout, IsLayout, rows_of, columns_of, columns_in, sector_of}
+use Rattle.row_layout.specs.Layout.{Layout, rows_of, columns_of, columns_in, sector_of}
 use Rattle.row_layout.proofs.Parts.{row_few}
 use Rattle.row_layout.proofs.Laws.{columns_apart}
-use Rattle.gf_solve.specs.Row.{is_masked, count_lost}
+use Rattle.gf_solve.specs.Row.{count_lost}
 use Rattle.gf_solve.proofs.Counting.{count_split}
-use Rattle.reconstruct.specs.Lost.{HasTooFew, IsFirstTooFew}
+use Rattle.reconstruct.specs.Lost.{HasTooFew}
 use Rattle.uberblock_ring.specs.Devices.{has_device, count_below, count_of}
-use Rattle.uberblock_ring.proofs.DeviceSets.{none_above}
 use Rattle.core_client.specs.declared.columns_read.ColumnsRead.{ColumnsRead}
 use Rattle.core_client.specs.Pool.{IsInPool}
 use Rattle.core_client.specs.Reading.{spot_in, spot_of}
 use Rattle.core_client.specs.Got.{has_lost}
 use Rattle.core_state.proofs.Fresh.{count_grows}
-use Rattle.core_client.proofs.Gotten.{parity_in_row}
 use Rattle.core_client.proofs.Places.{HasWidths, widths_of}
 
 -- ---- counting
@@ -221,19 +219,3 @@ lost_few_out layout reflow out read pool few row row_in lost_out too_few =
     let counted = count_mono (has_lost read row) (λ column. has_device out (spot_of layout reflow row column).device) 0
     (columns_in layout row) (λ column from below lost. lost_out column (omega (arith, below)) lost) in
     omega (arith, counted, enough.each row row_in, too_few)
-
--- Where the masks have parity columns alone, no row has lost too much.
-pub parity_alone : (layout : Layout) (parity : ℕ) (masks : List ℕ) → parity ≡ layout.parity → IsLayout layout
-    → length masks ≡ rows_of layout → EachIndex masks (λ row. slice_index masks row < 2 ^ parity)
-    → (row : ℕ) → IsFirstTooFew layout masks row → ⊥
-parity_alone layout parity masks parity_is is_layout long low row first =
-    let lost = is_masked (slice_index masks row) in
-    let parity_in = parity_in_row layout row is_layout in
-    let rest = columns_in layout row - layout.parity in
-    let none = count_nothing lost (0 + layout.parity) rest
-    (λ column from below. none_above (slice_index masks row) parity column (low row (omega (arith, first.row_in, long)))
-    (omega (arith, from, parity_is))) in
-    let parts : columns_in layout row ≡ layout.parity + rest = omega (arith, parity_in) in
-    let split : count_lost lost 0 (columns_in layout row) ≡ count_lost lost 0 layout.parity + count_lost lost (0 + layout.parity) rest =
-    ap (count_lost lost 0) parts ∙ count_split lost 0 layout.parity rest in
-    omega (arith, split, none, count_most lost 0 layout.parity, first.here)

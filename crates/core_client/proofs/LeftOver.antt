@@ -1,18 +1,13 @@
 -- What the columns of a block that is right hold.
-use Rattle.std.proofs.Common.{◌≡◌, ℕ, ◌<◌, List, length, Bool, true, false, Some, refl, ◌∙◌, ap, arith}
-use Rattle.std.specs.Prelude.{◌&&◌, nat_lt, slice_index, EachIndex, ◌^◌}
+use Rattle.std.proofs.Common.{◌≡◌, ℕ, List, Bool, true, false, Some, refl, ap}
+use Rattle.std.specs.Prelude.{◌&&◌}
 use Rattle.bank_trait.specs.Disk.{Known}
 use Rattle.reflow_mark.specs.declared.reflow.Reflow.{Reflow}
 use Rattle.row_layout.specs.declared.column.Part.TheVariants.{Missing}
-use Rattle.row_layout.specs.Layout.{Layout, IsLayout, IsColumn, rows_of, columns_in, sector_of, end_of, part_of}
-use Rattle.row_layout.proofs.Parts.{row_few}
+use Rattle.row_layout.specs.Layout.{Layout, IsColumn, sector_of, end_of, part_of}
 use Rattle.shadow_write.specs.Required.{IsFrontIn}
-use Rattle.gf_solve.specs.Row.{is_masked}
 use Rattle.reconstruct.specs.Columns.{zero_sector, part_bytes, column_bytes}
-use Rattle.reconstruct.specs.Rows.{Rows, HoldsContent}
-use Rattle.reconstruct.specs.Lost.{IsLeftOver}
 use Rattle.uberblock_ring.specs.Devices.{has_device}
-use Rattle.uberblock_ring.proofs.DeviceSets.{none_above}
 use Rattle.core_state.specs.Whole.{Cell, Excepted}
 use Rattle.core_client.specs.Pool.{IsInPool, IsRightBlock}
 use Rattle.core_client.specs.BlockTurns.{MayBeWrong}
@@ -40,15 +35,3 @@ pub missing_bytes : (layout : Layout) (bytes : List ℕ) (row column : ℕ) → 
     → column_bytes layout bytes row column ≡ zero_sector
 unfolding column_bytes
 missing_bytes layout bytes row column missing = ap (part_bytes layout bytes row) missing
-
--- Where the masks have parity columns alone, all content is there.
-pub all_content : (layout : Layout) (parity : ℕ) (rows : Rows) (masks : List ℕ) (wanted : List ℕ) → parity ≡ layout.parity → IsLayout layout
-    → length masks ≡ rows_of layout → EachIndex masks (λ row. slice_index masks row < 2 ^ parity) → IsLeftOver layout wanted rows masks
-    → HoldsContent layout wanted rows
-all_content layout parity rows masks wanted parity_is is long low left = record {
-  content = λ row column there high.
-      let masked : is_masked (slice_index masks row) column ≡ false =
-      none_above (slice_index masks row) parity column (low row (omega (arith, there.row_in, long))) (omega (arith, high, parity_is)) in
-      left.there row column there.row_in (omega (arith, there.column_in, row_few layout row is))
-      (ap (λ (b : Bool). nat_lt column (columns_in layout row) && b) masked ∙ and_false (nat_lt column (columns_in layout row)));
-}

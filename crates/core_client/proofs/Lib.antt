@@ -8,3 +8,5 @@ pub mod Enough
 pub mod Stored
 pub mod Cells
 pub mod BlockTurns
+pub mod Decoded
+pub mod Suspected

@@ -79,8 +79,10 @@ pub record ReadsColumn (reflow : Reflow) (before : BlockRead) (here : Point) (af
 
 -- The sector of a column may be wrong where its row stands.
 abbrev pub MayBeWrong : Layout → Reflow → Excepted → ℕ → ℕ → Type 0
-MayBeWrong layout reflow wrong row column = Contains wrong (sector_of layout row column,
-    ((spot_of layout reflow row column).device, (spot_of layout reflow row column).device_sector))
+MayBeWrong layout reflow wrong row column = Contains wrong (
+  sector_of layout row column,
+  ((spot_of layout reflow row column).device, (spot_of layout reflow row column).device_sector),
+)
 
 -- A column is the block's, unless it may be wrong, or was lost with its device.
 abbrev pub IsColumnOf : Layout → List ℕ → Reflow → ℕ → Excepted → ℕ → ℕ → Option (List ℕ) → Type 0

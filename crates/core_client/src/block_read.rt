@@ -85,7 +85,8 @@ impl BlockRead {
     }
 
     pub fn layout(&self) -> &Layout
-        ensures { result.now ≡ self.now.layout }
+        ensures value { result.now ≡ self.now.layout }
+        ensures is { IsLayout self.now.layout }
     {
         &self.run.layout
     }

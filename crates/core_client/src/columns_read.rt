@@ -1,6 +1,5 @@
 // A block's columns as they were read.
-ghost use Rattle.std.specs.Prelude.{◌≡◌, ◌≢◌, ◌⊎◌, ℕ, ◌<◌, ◌≤◌, IfOk, Some, IsTrue, length, false, true, ◌^◌, ◌↔◌};
-ghost use Rattle.std.specs.Prelude.{EachIndex, slice_index};
+ghost use Rattle.std.specs.Prelude.{◌≡◌, ◌≢◌, ◌⊎◌, ℕ, ◌<◌, ◌≤◌, IfOk, Some, length, false, true, ◌^◌};
 ghost use Rattle.bank_trait.specs.Disk.{Unchanged};
 ghost use Rattle.reconstruct.specs.Columns.{zero_sector};
 ghost use Rattle.row_layout.specs.Layout.{IsColumn, columns_of, rows_of};
@@ -92,15 +91,6 @@ impl ColumnsRead {
     {
         let row = row as usize;
         self.lost[row] = with_column(self.lost[row], column);
-    }
-
-    /// Whether no column behind the parity columns is lost.
-    pub(crate) fn has_all_content(&self, parity: u32) -> bool
-        requires { parity ≤ 3 }
-        ensures { IsTrue result ↔ EachIndex self.now.lost.items
-            (λ row. slice_index self.now.lost.items row < 2 ^ parity) }
-    {
-        self.lost.iter().all(|mask| *mask < 1 << parity)
     }
 }
 

@@ -6,7 +6,7 @@ use std::alloc::AllocError;
 
 #[derive(Clone, Copy, Debug, PartialEq, Eq)]
 pub enum FetchRefused {
-    /// Too few columns of a row are there, or the bytes have another digest.
+    /// No choice of suspects leaves enough columns of each row and gives bytes with the digest.
     Damaged,
     NoMemory,
 }

@@ -12,7 +12,7 @@ use Rattle.reflow_mark.specs.Reflow.{Expands, sectors_of}
 use Rattle.shadow_write.specs.Required.{IsAt, IsRequiredPlace}
 use Rattle.reflow_copier.specs.declared.job.Job.{Job}
 use Rattle.reflow_copier.specs.declared.job.Job.TheVariants.{Fill, Drain, Chunk}
-use Rattle.reflow_copier.specs.Jobs.{Spot as JobSpot, job_begin, job_end, source_of, target_of}
+use Rattle.reflow_copier.specs.Jobs.{Spot as JobSpot, job_begin, job_end, source_of}
 use Rattle.uberblock_ring.specs.Devices.{IsWithin, has_device}
 use Rattle.uberblock_ring.specs.Uberblock.{Uber}
 use Rattle.uberblock_ring.specs.Valid.{IsRightUber}

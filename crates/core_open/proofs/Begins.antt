@@ -19,7 +19,6 @@ use Rattle.shadow_write.specs.Band.{IsFrontOf}
 use Rattle.core_state.specs.Map.{Map}
 use Rattle.core_state.specs.Shown.{Shape}
 use Rattle.core_state.specs.Index.{IsIndexOf, AreApart}
-use Rattle.core_state.specs.Whole.{Excepted}
 use Rattle.core_state.specs.Keeps.{Kept, Setting, blocks_of}
 use Rattle.core_state.specs.Certain.{Asks, CellsOn, certain}
 use Rattle.core_state.proofs.Keeping.{asks_alike, blocks_alone}

@@ -16,7 +16,6 @@ use Rattle.uberblock_ring.specs.Uberblock.{Uber, encoded, slot_of, area_sector}
 use Rattle.uberblock_ring.specs.Valid.{IsRightUber}
 use Rattle.uberblock_ring.proofs.OneSpelling.{encoded_tells}
 use Rattle.core_state.specs.Shown.{Shape, Shows}
-use Rattle.core_state.specs.Whole.{Excepted}
 use Rattle.core_state.specs.Keeps.{Kept, Setting, IsNotOutvoted, MayVoteFor}
 use Rattle.core_state.specs.Collision.{HasNoOtherUber, MightStand, MightShow}
 use Rattle.core_state.specs.Certain.{Asks, CellsOn, PageOn, SlotOn, IsAble, IsCertain, Knows, certain, able}

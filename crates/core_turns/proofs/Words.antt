@@ -133,6 +133,7 @@ pub use Rattle.core_blocks.specs.Runs.{AreClear}
 pub use Rattle.core_blocks.specs.declared.range.PutRange.{PutRange}
 pub use Rattle.core_blocks.specs.declared.refused.PutRefused.{PutRefused}
 pub use Rattle.core_client.proofs.Below.{below_by_write}
+pub use Rattle.core_client.proofs.Decoded.{damaged_alike, decoded_alike, left_decoded, left_undamaged}
 pub use Rattle.core_client.proofs.BlockTurns.{listed_at, read_begun, read_left_over, read_lost_few, read_more}
 pub use Rattle.core_client.proofs.BlockTurns.{read_stays, read_with_more, written_all, written_more, written_none, written_stays}
 pub use Rattle.core_state.proofs.SpotReads.{outs_by_step}
@@ -186,6 +187,7 @@ pub use Rattle.core_turns.specs.Freeing.{FreesBlock, map_after_free}
 pub use Rattle.core_turns.specs.Getting.{AnswersSolved, BeginsGet, EndsGet, FindsGet, HasSameRow, HasTooManyOut}
 pub use Rattle.core_turns.specs.Getting.{HoldsGet, IsGetOf, IsMoreOf, IsReadKind, IsReadRight, IsSolved, IsSolvedAs}
 pub use Rattle.core_turns.specs.Getting.{KeepsGet, ReadsTurn, SolvesGet, TellsGet, answer_of, hold_of, to_solve_of}
+pub use Rattle.core_turns.specs.Getting.{question_for, pool_widths}
 pub use Rattle.core_turns.specs.Putting.{AsksAlike, BeginsPutSo, BeginsPutTurn, FillsPut, GivesUp, HoldsPut}
 pub use Rattle.core_turns.specs.Putting.{IsFilledWith, IsMorePut, IsPutOf, LeavesBlocks, StoresBlock, WritesOne}
 pub use Rattle.core_turns.specs.Putting.{WritesTurn, filled_entry, hold_on, refused_turn}

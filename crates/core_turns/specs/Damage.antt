@@ -1,5 +1,5 @@
 -- What may be wrong of what an open pool holds.
-use Rattle.std.specs.Prelude.{List, []}
+use Rattle.std.specs.Prelude.{[]}
 use Rattle.core_state.specs.Keeps.{Kept}
 use Rattle.core_state.specs.Whole.{Excepted, IsAmong}
 use Rattle.core_copy.specs.Closed.{IsClosed}

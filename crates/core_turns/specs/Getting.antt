@@ -10,8 +10,9 @@ use Rattle.space_alloc.specs.Space.{Gains}
 use Rattle.block_record.specs.declared.entry.IndexEntry.{IndexEntry}
 use Rattle.block_record.specs.Page.{IsRightEntry}
 use Rattle.block_table.specs.Table.{entry_of}
-use Rattle.reconstruct.specs.Lost.{AreBytes, IsLeftOver}
+use Rattle.reconstruct.specs.Lost.{AreBytes}
 use Rattle.reconstruct.specs.Rows.{column_at, sectors_for}
+use Rattle.reconstruct.specs.Solved.{IsDamaged, IsDecoded, Question}
 use Rattle.uberblock_ring.specs.Uberblock.{Uber}
 use Rattle.uberblock_ring.specs.Devices.{count_of}
 use Rattle.core_state.specs.declared.answer.Answer.{Answer}
@@ -24,7 +25,9 @@ use Rattle.core_state.specs.Legal.{IsReadOf}
 use Rattle.core_state.specs.Committing.{point_of}
 use Rattle.core_client.specs.declared.columns_read.ColumnsRead.{ColumnsRead}
 use Rattle.core_client.specs.Pool.{IsInPool, IsRightBlock}
-use Rattle.core_client.specs.Got.{HasLostFew, IsShapedAs}
+use Rattle.core_client.specs.Asked.{question_of}
+use Rattle.core_client.specs.Got.{IsShapedAs}
+use Rattle.core_client.specs.declared.widths.Widths.{Widths}
 use Rattle.core_client.specs.BlockTurns.{IsReadBegun, ReadsColumn, IsReadSoFar}
 use Rattle.core_turns.specs.declared.getting.GetRun.{GetRun}
 use Rattle.core_turns.specs.declared.solving.Solved.{Solved}
@@ -80,6 +83,10 @@ IsGetRefused core id answer.Absent =
 IsGetRefused core id answer.NoMemory = HasTooManyOut core → ⊥
 IsGetRefused core id other = ⊥
 
+-- the widths of a pool as they are where a read begins
+abbrev pub pool_widths : Uber → Widths
+pool_widths uber = record { births = uber.births; to = uber.reflow.to; mark = uber.reflow.mark }
+
 -- what the first turn of a read comes to
 abbrev pub BeginsGet : Core → Core → ℕ → Kind → ℕ → Turn GetRun → Type 0
 BeginsGet old new actor asked id (More run) = (HasTooManyOut old → ⊥)
@@ -89,7 +96,7 @@ BeginsGet old new actor asked id (More run) = (HasTooManyOut old → ⊥)
     × IsReadBegun (layout_of old.pool.uber.parity old.pool.uber.births run.entry) run.read
     × (new ≡ record old { holds = new.holds }) × IsGetOf new run
     × IsClear old.holds run.hold.lo run.hold.hi Shared
-    × Gains old.holds new.holds run.hold
+    × Gains old.holds new.holds run.hold × (run.widths ≡ pool_widths old.pool.uber)
 BeginsGet old new actor asked id (Busy by) = (HasTooManyOut old → ⊥) × (new ≡ old)
     × ((entry : IndexEntry) × (entry_of old.pool.blocks.table.entries id ≡ Some entry)
     × (let hold : Hold = hold_of old.pool.uber entry actor in IsBusyBy old.holds hold.lo hold.hi Shared by))
@@ -120,6 +127,7 @@ to_solve_of run = record {
   read = run.read.read;
   len = run.entry.len;
   digest = run.entry.digest;
+  widths = run.widths;
 }
 
 -- It can be solved.
@@ -127,26 +135,16 @@ pub record IsSolvable (block : ToSolve) : Type 0 where
   pub shape : IsShapedAs block.layout block.read
   pub len : sectors_for block.len ≡ block.layout.sectors
 
--- What was solved has the block's length and digest, and is whatever the columns are left of. It is damaged
--- only where too much of a row is lost, or nothing of that digest is what they are left of.
-abbrev pub HasRightBytes : ToSolve → Solved → Type 0
-HasRightBytes block NotYet = ⊥
-HasRightBytes block (Bytes bytes) = (length bytes ≡ block.len) × (sha256 bytes ≡ block.digest)
-HasRightBytes block Damaged = (wanted : List ℕ)
-    → IsLeftOver block.layout wanted block.read.rows block.read.lost.items
-    → length wanted ≡ block.len → AreBytes wanted → sha256 wanted ≡ block.digest
-    → HasLostFew block.layout block.read → ⊥
+-- what is asked of its columns
+abbrev pub question_for : ToSolve → Question
+question_for block = question_of block.layout block.read block.len block.digest block.widths
 
-abbrev pub IsWhatIsLeft : ToSolve → Solved → Type 0
-IsWhatIsLeft block (Bytes bytes) = (wanted : List ℕ)
-    → IsLeftOver block.layout wanted block.read.rows block.read.lost.items
-    → length wanted ≡ block.len → AreBytes wanted → sha256 wanted ≡ block.digest
-    → HasLostFew block.layout block.read → bytes ≡ wanted
-IsWhatIsLeft block other = ⊤
-
-pub record IsSolved (block : ToSolve) (solved : Solved) : Type 0 where
-  pub bytes : HasRightBytes block solved
-  pub left : IsWhatIsLeft block solved
+-- What was solved has the block's length, and is what the first choice of suspects tells of the columns that tells bytes
+-- of its digest; it is damaged only where none does.
+abbrev pub IsSolved : ToSolve → Solved → Type 0
+IsSolved block NotYet = ⊥
+IsSolved block (Bytes bytes) = (length bytes ≡ block.len) × IsDecoded (question_for block) bytes
+IsSolved block Damaged = IsDamaged (question_for block)
 
 -- Two readings of a block got the same in a row,
 abbrev pub HasSameRow : Layout → ColumnsRead → ColumnsRead → ℕ → Type 0
@@ -158,11 +156,16 @@ pub record HasSameColumns (layout : Layout) (one other : ColumnsRead) : Type 0 w
   pub lost : one.lost.items ≡ other.lost.items
   pub rows : (row : ℕ) → row < rows_of layout → HasSameRow layout one other row
 
--- They are of the same block.
-pub record IsAlike (one other : ToSolve) : Type 0 where
+-- They are of the same block,
+pub record AreOfOneBlock (one other : ToSolve) : Type 0 where
   pub layout : one.layout ≡ other.layout
   pub len : one.len ≡ other.len
   pub digest : one.digest ≡ other.digest
+
+-- in a pool of the same widths, and the same was read of it.
+pub record IsAlike (one other : ToSolve) : Type 0 where
+  pub block : AreOfOneBlock one other
+  pub widths : one.widths ≡ other.widths
   pub columns : HasSameColumns other.layout one.read other.read
 
 -- The block was solved from what was read.

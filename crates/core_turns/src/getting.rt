@@ -16,7 +16,7 @@ ghost use Rattle.core_turns.specs.declared.getting.GetRun.{GetRun as GetRunOf};
 ghost use Rattle.core_turns.specs.Core.{Core as CoreOf, CoreState, IsCore, at_disk, pool_at, HasBankOf};
 ghost use Rattle.core_turns.specs.Getting.{HasLayout, HoldsGet, FindsGet, KeepsGet, TellsGet, IsAlike, IsGetOf};
 ghost use Rattle.core_turns.specs.Getting.{IsMoreOf, IsReadKind, BeginsGet, ReadsTurn, IsSolvable, IsSolved, SolvesGet};
-ghost use Rattle.core_turns.specs.Getting.{EndsGetSo, answer_of, to_solve_of};
+ghost use Rattle.core_turns.specs.Getting.{EndsGetSo, answer_of, to_solve_of, pool_widths};
 ghost use Rattle.core_turns.specs.Steps.{turn_with};
 ghost use Rattle.core_turns.specs.declared.turn.Turn.TheVariants.{Done};
 
@@ -25,7 +25,7 @@ use crate::turn::too_many;
 use crate::{Core, Turn};
 use bank_trait::Bank;
 use block_record::IndexEntry;
-use core_client::BlockRead;
+use core_client::{BlockRead, Widths};
 use core_state::{Answer, Bytes, Kind};
 use range_locks::{Hold, LockRefused};
 use row_layout::Layout;
@@ -41,6 +41,8 @@ pub struct GetRun {
     hold: Hold,
     entry: IndexEntry,
     read: BlockRead,
+    /// The widths of the pool at its first turn.
+    widths: Widths,
     solved: Solved,
 }
 
@@ -59,6 +61,18 @@ fn layout_of(uber: &Uber, entry: &IndexEntry) -> Layout
         uber.parity(),
         width_at(uber.births(), entry.birth),
     )
+}
+
+/// The widths of the pool as they are.
+fn pool_widths(uber: &Uber) -> Widths
+    ensures { result ≡ pool_widths uber.now }
+{
+    let reflow = uber.reflow();
+    Widths {
+        births: *uber.births(),
+        to: reflow.to,
+        mark: reflow.mark,
+    }
 }
 
 impl GetRun {
@@ -86,6 +100,7 @@ impl GetRun {
             read,
             len: self.entry.len,
             digest: self.entry.digest,
+            widths: self.widths,
         })
     }
 
@@ -103,6 +118,7 @@ impl GetRun {
             self.read.columns(),
             self.entry.len,
             &self.entry.digest,
+            &self.widths,
         ) {
             return false;
         }
@@ -134,6 +150,7 @@ impl GetRun {
             self.read.columns(),
             self.entry.len,
             &self.entry.digest,
+            &self.widths,
         )?;
         Ok(())
     }
@@ -200,6 +217,7 @@ impl Core {
         let entry = *entry;
         let layout = layout_of(&self.uber, &entry);
         let end = entry.start + layout.alloc_size();
+        let widths = pool_widths(&self.uber);
         let Ok(read) = BlockRead::new(alloc, &layout) else {
             return Turn::Done(Answer::NoMemory);
         };
@@ -213,6 +231,7 @@ impl Core {
             hold,
             entry,
             read,
+            widths,
             solved: Solved::NotYet,
         })
     }

@@ -97,18 +97,29 @@ const OLD_33: Place = (2, 192 + 43);
 
 const NEW_33: Place = (3, 192 + 32);
 
-/// Whether a block is told to be damaged where this place is spoiled. Else its bytes are told.
+/// The place of the content sector behind it, where it stands.
+const SCRATCH_31_NEXT: Place = (0, 32 + 31);
+
+const NEW_31_NEXT: Place = (0, 192 + 31);
+
+const OLD_32_NEXT: Place = (2, 192 + 42);
+
+const OLD_33_NEXT: Place = (0, 192 + 44);
+
+/// Whether a block is told to be damaged where these places are spoiled. Else its bytes are told, as they are where one
+/// of its columns is wrong.
 fn is_damaged_by(
     rt: &impl Abort,
     alloc: Global,
     bank: &MemBank,
     block: u64,
-    place: Place,
+    places: [Place; 2],
 ) -> Result<bool, Fail> {
-    let (device, device_sector) = place;
     let mut left = copy_of(alloc, bank)?;
-    assert!(rt; device < left.devices() && device_sector < left.sectors());
-    left.spoil(device, device_sector, 0xff)?;
+    for (device, device_sector) in places {
+        assert!(rt; device < left.devices() && device_sector < left.sectors());
+        left.spoil(device, device_sector, 0xff)?;
+    }
     let script = format!(in alloc; "clients 1\na sum {block}\n")?;
     let told = run(alloc, &mut left, script.as_bytes())?;
     let damaged = format!(in alloc; "0 group 6 after 0\n1 a.1 sum {block} at 1 damaged\n")?;
@@ -121,24 +132,24 @@ fn is_damaged_by(
 #[test]
 fn a_block_is_read_from_where_it_stands_and_nowhere_else(rt: HostRuntime) -> Result<(), Fail> {
     let alloc = rt.alloc();
-    // (how far the pool has come, the block, where it stands, its other places)
-    let rows: [(Way, u64, Place, &[Place]); 6] = [
-        (SCRATCH, 31, SCRATCH_31, &[OLD_31, NEW_31]),
-        (SCRATCH, 32, OLD_32, &[SCRATCH_32, NEW_32]),
-        (SCRATCH, 33, OLD_33, &[NEW_33]),
-        (NEW, 31, NEW_31, &[OLD_31, SCRATCH_31]),
-        (NEW, 32, OLD_32, &[SCRATCH_32, NEW_32]),
-        (NEW, 33, OLD_33, &[NEW_33]),
+    // (how far the pool has come, the block, where it stands, where its next column does, its other places)
+    let rows: [(Way, u64, Place, Place, &[Place]); 6] = [
+        (SCRATCH, 31, SCRATCH_31, SCRATCH_31_NEXT, &[OLD_31, NEW_31]),
+        (SCRATCH, 32, OLD_32, OLD_32_NEXT, &[SCRATCH_32, NEW_32]),
+        (SCRATCH, 33, OLD_33, OLD_33_NEXT, &[NEW_33]),
+        (NEW, 31, NEW_31, NEW_31_NEXT, &[OLD_31, SCRATCH_31]),
+        (NEW, 32, OLD_32, OLD_32_NEXT, &[SCRATCH_32, NEW_32]),
+        (NEW, 33, OLD_33, OLD_33_NEXT, &[NEW_33]),
     ];
-    for (way, block, stands, others) in rows {
+    for (way, block, stands, next, others) in rows {
         let bank = filled(alloc, bank_on_the_way(alloc, way)?)?;
         assert!(rt;
-            is_damaged_by(&rt, alloc, &bank, block, stands)?,
+            is_damaged_by(&rt, alloc, &bank, block, [stands, next])?,
             "{block} of {way:?}"
         );
         for other in others {
             assert!(rt;
-                !is_damaged_by(&rt, alloc, &bank, block, *other)?,
+                !is_damaged_by(&rt, alloc, &bank, block, [*other, next])?,
                 "{block} of {way:?} at {other:?}"
             );
         }

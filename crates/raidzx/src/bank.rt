@@ -4,7 +4,7 @@ ghost use Rattle.file_bank.specs.FileBank.{disk_of};
 ghost use Rattle.file_bank.specs.Files.{HasLongestSectors};
 ghost use Rattle.raidzx.specs.Images.{device_contents};
 
-use crate::files::{SyncRuntime, Image, ImageFile};
+use crate::files::{Image, ImageFile, SyncRuntime};
 use crate::pace::Pace;
 use file_bank::{Gathered, ReadAhead};
 use raidzx_top::MOST_SECTORS;

@@ -131,8 +131,7 @@ fn note_others<R: Eprint>(rt: &R, undone: &Undone) {
     }
     if undone.damaged > 0 {
         let _ = eprintln!(rt;
-            "raidzx: reads that found wrong bytes: {}; the manual tells at `damaged` how to find the image that \
-            gives them",
+            "raidzx: reads of damaged blocks: {}; the manual tells at `damaged` what is left to do",
             undone.damaged
         );
     }

@@ -1,5 +1,5 @@
 -- A job beside puts, and beside the answer of a commit.
-use Rattle.core_turns.proofs.Words.{◌≡◌, ⊎_elim, ℕ, ◌<◌, ◌≤◌, List, [], sym, subst, arith, cases_lt, Hold, Overlaps}
+use Rattle.core_turns.proofs.Words.{◌≡◌, ⊎_elim, ℕ, ◌<◌, ◌≤◌, List, sym, subst, arith, cases_lt, Hold, Overlaps}
 use Rattle.core_turns.proofs.Words.{State, Valid, Moved, Reflow, NeedsOld, Layout, end_of, sector_of, IsRequiredPlace}
 use Rattle.core_turns.proofs.Words.{NeedsScratch, are_required, Job, job_begin, job_end, Point, Cell, IsCell, RightAt}
 use Rattle.core_turns.proofs.Words.{IsCommitChoice, MayRecord, front_behind, IsClose, CopiesSector, IsTarget, MovesMark}

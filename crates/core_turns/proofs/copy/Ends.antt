@@ -1,5 +1,5 @@
 -- The end of a job beside the calls that are under way: the front is behind it, and each call goes on where it was.
-use Rattle.core_turns.proofs.Words.{◌≡◌, ℕ, List, [], None, Option, Some, refl, arith, Contains, Disk, Hold, EndsHold}
+use Rattle.core_turns.proofs.Words.{◌≡◌, ℕ, List, None, Option, Some, refl, arith, Contains, Disk, Hold, EndsHold}
 use Rattle.core_turns.proofs.Words.{Reflow, Layout, end_of, sector_of, Gains, job_begin, job_end, Map, layout_of, Kept}
 use Rattle.core_turns.proofs.Words.{Setting, point_of, IsFrontOf, call_count, cell_below, cell_close, job_at_front}
 use Rattle.core_turns.proofs.Words.{job_front, job_some, rows_same, gains_item, gains_old, pairs_beside, pairs_lose}

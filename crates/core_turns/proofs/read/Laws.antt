@@ -1,5 +1,7 @@
 -- What a read keeps of its block, turn by turn.
 use Rattle.core_turns.proofs.Words.{◌≡◌, ℕ, ◌<◌, List, [], false, Option, Some, None, Result, Ok, Err, sym, ◌∙◌, ap, arith}
+use Rattle.core_turns.proofs.Words.{IsLayout, Layout, damaged_alike, decoded_alike, left_decoded}
+use Rattle.core_turns.proofs.Words.{left_undamaged}
 use Rattle.core_turns.proofs.Words.{Excepted, IsAmong, read_with_more, OnOk, cases_lt, Disk, Unchanged, rows_of, IsRequiredPlace, IsFrontOf, entry_of}
 use Rattle.core_turns.proofs.Words.{IsLeftOver, has_device, IsWithin, Kind, Map, Cell, IsCell, found_id, found_listed}
 use Rattle.core_turns.proofs.Words.{HasLostFew, OnlyFailedGoOut, point_of, IsAtColumn, read_begun, read_stays}
@@ -9,6 +11,10 @@ use Rattle.core_turns.proofs.Words.{CoreState, at_disk, pool_at, IsReadKind, Has
 use Rattle.core_turns.proofs.Words.{ReadsTurn, IsSolved, SolvesGet, AnswersSolved, EndsGet, IsSolvedAs, HoldsGet}
 use Rattle.core_turns.proofs.Words.{FindsGet, KeepsGet, TellsGet, answer_of, to_solve_of, Answer, refl, turn_with}
 use Rattle.core_turns.proofs.state.Damage.{none_among}
+use Rattle.reconstruct.specs.Rows.{sectors_for}
+use Rattle.core_turns.specs.declared.solving.ToSolve.{ToSolve}
+use Rattle.core_turns.specs.Getting.{IsAlike}
+use Rattle.core_client.proofs.Decoded.{AreAlike}
 use Rattle.core_state.specs.declared.answer.Kind.TheVariants as kind
 
 -- A read that begins holds the block that the map has at its id.
@@ -70,6 +76,9 @@ pub get_solves : (wrong : Excepted) (content : List ℕ) (state : CoreState) (ru
     → SolvesGet run next → HoldsGet wrong content state next
 get_solves wrong content state run next whole of holds solves = search (by, arith)
   where
+    sectors : sectors_for run.entry.len ≡ run.read.layout.sectors
+    sectors = sym (ap (λ (l : Layout). l.sectors) of.layout_is)
+
     left_over : wrong ≡ [] → IsLeftOver run.read.layout content run.read.read.rows run.read.read.lost.items
     left_over none =
         let so_far = rw none at holds.so_far in search read_left_over
@@ -80,8 +89,12 @@ get_solves wrong content state run next whole of holds solves = search (by, arit
     by : wrong ≡ [] → (HasTooManyOut state.core → ⊥) → (solved : Solved) → IsSolved (to_solve_of run) solved
         → IsSolvedAs content solved
     by none few NotYet is = tt
-    by none few (Bytes bytes) is = search (left_over, lost_few, arith)
-    by none few Damaged is = search (left_over, lost_few, arith)
+    by none few (Bytes bytes) is = left_decoded run.read.layout run.read.read run.entry.len run.entry.digest run.widths
+        sectors content of.pool.within.is (left_over none) (lost_few few) holds.len_is holds.are_bytes holds.digest_is
+        bytes is.1
+    by none few Damaged is = left_undamaged run.read.layout run.read.read run.entry.len run.entry.digest run.widths
+        sectors content of.pool.within.is (left_over none) (lost_few few) holds.len_is holds.are_bytes holds.digest_is
+        is
 
 -- A read is answered by its block, or was cut short.
 pub get_tells : (content : List ℕ) (old new : Core) (disk : Disk) (run : GetRun) (result : Turn GetRun)
@@ -126,10 +139,12 @@ get_stays wrong content before after run widths front within few same holds = re
 pub get_with_more : (wrong more : Excepted) (content : List ℕ) (state : CoreState) (run : GetRun) → IsAmong wrong more
     → HoldsGet wrong content state run → HoldsGet more content state run
 get_with_more wrong more content state run among holds = record {
-  right = record { each = λ cell its. record {
-    at = λ device device_sector place used right_there. (holds.right.each cell its).at device device_sector place used
-        (λ listed. right_there (among _ listed));
-  } };
+  right = record {
+    each = λ cell its. record {
+      at = λ device device_sector place used right_there. (holds.right.each cell its).at device device_sector place used
+          (λ listed. right_there (among _ listed));
+    };
+  };
   len_is = holds.len_is;
   are_bytes = holds.are_bytes;
   digest_is = holds.digest_is;
@@ -143,3 +158,24 @@ pub went_solves : (run next : GetRun) (result : Result (Unit {0}) OutOfMemory) �
     → IsGetOf state.core run → HoldsGet wrong content state run → HoldsGet wrong content state next)
 went_solves run next (Ok value) solves = search get_solves
 went_solves run next (Err why) solves = tt
+
+-- What was solved of one reading is solved of one that is alike.
+pub solved_alike : (one other : ToSolve) (solved : Solved) → IsLayout other.layout → IsAlike one other
+    → IsSolved one solved → IsSolved other solved
+solved_alike one other solved is alike its = by solved
+    (rw (alike.block.layout, alike.block.len, alike.block.digest, alike.widths) at its)
+  where
+    same : AreAlike other.layout one.read other.read
+    same = record {
+      lost = alike.columns.lost;
+      columns = record { at = λ row column row_in low. alike.columns.rows row row_in column low };
+    }
+
+    by : (solved : Solved) → IsSolved (record other { read = one.read }) solved → IsSolved other solved
+    by NotYet none = none
+    by (Bytes bytes) (long, decoded) = (
+      long,
+      decoded_alike other.layout one.read other.read other.len other.digest other.widths is same bytes decoded,
+    )
+    by Damaged damaged =
+        damaged_alike other.layout one.read other.read other.len other.digest other.widths is same damaged

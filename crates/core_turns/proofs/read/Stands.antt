@@ -4,7 +4,7 @@ use Rattle.core_turns.proofs.Words.{Contains, Disk, Lawful, Unchanged, Hold, End
 use Rattle.core_turns.proofs.Words.{Setting, Nowhere, gains_old, gains_item, gains_cases, OnlyFailedGoOut, point_of}
 use Rattle.core_turns.proofs.Words.{IsAtColumn, CommitRun, GetRun, PutRun, More, Core, IsCore, CoreState, at_disk}
 use Rattle.core_turns.proofs.Words.{BeginsGet, HoldsGet, ReadsTurn, SolvesGet, HoldingCall, Putting, Reading}
-use Rattle.core_turns.proofs.Words.{Damage, SetsContent, actor_of, HoldsCall, AreCallsOf, Stands, arith, Excepted}
+use Rattle.core_turns.proofs.Words.{Damage, SetsContent, actor_of, HoldsCall, AreCallsOf, Stands, arith}
 use Rattle.core_turns.proofs.free.TakenBack.{each_gained}
 use Rattle.core_turns.proofs.state.Frames.{call_off_nowhere, off_nowhere, leaves_read}
 use Rattle.core_turns.proofs.state.StandFrames.{groups_read, stands_frame}

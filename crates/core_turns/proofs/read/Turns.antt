@@ -1,4 +1,6 @@
 -- Gets and sums, turn by turn: what each turn comes to, and what it keeps.
+use Rattle.core_turns.proofs.Words.{pool_widths}
+use Rattle.core_client.specs.declared.widths.Widths.{Widths}
 use Rattle.core_turns.proofs.Words.{◌≡◌, ℕ, ◌+◌, List, Some, refl, ◌∙◌, arith, Result, Contains, OnOk, OnErr, Hold}
 use Rattle.core_turns.proofs.Words.{Shared, EndsHold, IsClear, Layout, allocated_of, Gains, IndexEntry, entry_of}
 use Rattle.core_turns.proofs.Words.{layout_of, Kind, AreInStep, gains_item, gains_old, found_listed, BlockRead}
@@ -6,19 +8,19 @@ use Rattle.core_turns.proofs.Words.{IsReadBegun, listed_in_pool, GetRun, OutOfMe
 use Rattle.core_turns.proofs.Words.{CoreState, IsCore, as_begun, reaching, HasTooManyOut, IsGetOf, IsMoreOf, BeginsGet}
 use Rattle.core_turns.proofs.Words.{ReadsTurn, SolvesGet}
 use Rattle.core_turns.proofs.state.Cores.{core_held}
-use Rattle.core_turns.proofs.state.Holds.{shared_ended}
+use Rattle.core_turns.proofs.state.Holds.{shared_ended, shared_gained}
 
 -- A read begins.
 pub get_begins : {core : Core} {actor : ℕ} (id : ℕ) {asked : Kind} {entry : IndexEntry} {layout : Layout} {size : ℕ}
-    {hold : Hold} {read : BlockRead} {holds : List Hold} → IsCore core → AreInStep core.pool.blocks
+    {hold : Hold} {read : BlockRead} {widths : Widths} {holds : List Hold} → IsCore core → AreInStep core.pool.blocks
     → (HasTooManyOut core → ⊥) → entry_of core.pool.blocks.table.entries id ≡ Some entry
     → layout ≡ layout_of core.pool.uber.parity core.pool.uber.births entry → size ≡ allocated_of layout
     → hold ≡ record { lo = entry.start; hi = entry.start + size; actor = actor; kind = Shared }
     → IsReadBegun layout read → Gains core.holds holds hold → IsClear core.holds entry.start (entry.start + size) Shared
-    → BeginsGet core (record core { holds = holds }) actor asked id
-    (More (record { kind = asked; hold = hold; entry = entry; read = read; solved = NotYet }))
+    → widths ≡ pool_widths core.pool.uber → BeginsGet core (record core { holds = holds }) actor asked id
+    (More (record { kind = asked; hold = hold; entry = entry; read = read; widths = widths; solved = NotYet }))
 get_begins {core} {actor} id {entry = entry} {hold = hold} {holds = holds} is step few found layout_is size_is hold_is
-    begun held clear =
+    begun held clear widths_are =
     let listed = found_listed core.pool.blocks.table.entries id entry found in (
       few,
       found,
@@ -37,6 +39,7 @@ get_begins {core} {actor} id {entry = entry} {hold = hold} {holds = holds} is st
       },
       rw hold_is clear,
       held,
+      widths_are,
     )
 
 -- A read is one of a block of the pool still where the uberblock and its hold are there, and no other group was begun.
@@ -48,7 +51,12 @@ get_of uber begun listed of = search arith
 pub get_shared : (core : Core) (run : GetRun) → IsGetOf core run → run.hold.kind ≡ Shared
 get_shared core run of = cc
 
--- so a core stays one when it ends.
+-- so a core stays one when it begins,
+pub read_held : {core : Core} {holds : List Hold} {hold : Hold} → IsCore core → hold.kind ≡ Shared
+    → Gains core.holds holds hold → IsCore (record core { holds = holds })
+read_held {core} {holds} {hold} is shared gains = core_held is (shared_gained core.holds holds hold shared gains)
+
+-- and when it ends.
 pub read_ended : {core : Core} {run : GetRun} {holds : List Hold} → IsCore core → IsGetOf core run
     → EndsHold core.holds holds run.hold → IsCore (record core { holds = holds })
 read_ended is of ends = search (core_held, shared_ended, get_shared)

@@ -1,5 +1,5 @@
 -- What may be wrong of a row of groups.
-use Rattle.core_turns.proofs.Words.{◌≡◌, refl, ⊎_elim, List, [], ◌∷◌, sym, subst, Contains, contains_cases, contains_head}
+use Rattle.core_turns.proofs.Words.{◌≡◌, refl, ⊎_elim, [], ◌∷◌, sym, subst, Contains, contains_cases, contains_head}
 use Rattle.core_turns.proofs.Words.{contains_none, contains_tail, Kept, Excepted, IsAmong, Damage, IsDamage, ListsDamage}
 use Rattle.core_turns.proofs.Words.{undamaged}
 

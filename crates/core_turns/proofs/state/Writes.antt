@@ -75,7 +75,7 @@ module _ {before : CoreState} (after : CoreState) {P : ℕ → ℕ → Type 0} (
 
   -- All stands still, where the call that writes has come further, blocks stay right, and others hold what they held.
   pub writes_stand : {contents : ℕ → List ℕ} {map : Map} {damage : Damage} {commit : Option CommitRun}
-      {left nexts : List HoldingCall}      {call next : HoldingCall} → OnlyOut before.core after.core → Lawful after.disk
+      {left nexts : List HoldingCall} {call next : HoldingCall} → OnlyOut before.core after.core → Lawful after.disk
       → KeepsRight before (written_by before after)
       → ((other : HoldingCall) → AreBeside call other → IsCallOfCore before.core other
       → KeepsCall before (written_by before after) other)

@@ -3,7 +3,7 @@ use Rattle.schedule.proofs.Words.{◌≡◌, ℕ, List, Some, None, ap, slice_ge
 use Rattle.schedule.proofs.Words.{PutBytes, map_of, map_after_answer, IsAnswerOf, IsRightFree, found_id, found_listed}
 use Rattle.schedule.proofs.Words.{map_after_free, HoldsMap, ScriptCall, Script, calls_of, Core, at_disk, pool_at}
 use Rattle.schedule.proofs.Words.{FreesBlock, Done, frees_calls, frees_stands, Client, TurnState, Frees, LeavesBegun}
-use Rattle.schedule.proofs.Words.{TakesTurn, calls_under_way, arith}
+use Rattle.schedule.proofs.Words.{TakesTurn, calls_under_way, arith, []}
 use Rattle.core_state.specs.declared.answer.Kind.TheVariants as kind
 use Rattle.schedule.proofs.turn.Fitting.{no_device_cause, plain_no_limit}
 use Rattle.schedule.proofs.turn.RightNext.{IsPlain, free_right}

@@ -1,5 +1,5 @@
 -- What the turns of reads come to.
-use Rattle.schedule.proofs.Words.{◌≡◌, ◌≢◌, ℕ, ◌-◌, List, Some, None, refl, sym, ◌∙◌, ap, subst, arith, Contains}
+use Rattle.schedule.proofs.Words.{◌≡◌, ◌≢◌, ℕ, ◌-◌, List, [], Some, None, refl, sym, ◌∙◌, ap, subst, arith, Contains}
 use Rattle.schedule.proofs.Words.{slice_get, option_and_then, Hold, Gains, Answer, Kind, Entry, Map, map_of, map_after}
 use Rattle.schedule.proofs.Words.{IsAnswerOf, found_id, gains_item, IsReadRight, ScriptCall, Script, calls_of}
 use Rattle.schedule.proofs.Words.{map_at_end, GetRun, More, Busy, Done, IsReadKind, BeginsGet, HoldingCall, Reading}
@@ -74,7 +74,7 @@ module _ {script : Script} {actor : ℕ} {before after : TurnState} {clients new
         (put_alone (read_no_put is) of) (λ handed map entry. map_read handed entry call.kind given is of)
         (λ world past runs.
         let map = map_of world.handed world.opening before.items in
-        let none : given ≡ answer.Absent → map id ≡ None = get_finds map old now before.state.disk actor id call.kind
+        let none : given ≡ answer.Absent → map id ≡ None = get_finds [] map old now before.state.disk actor id call.kind
         (Done given) runs.stands.holds begins in
         right_read world call actor given is (search arith) (omega arith) (below_end before.items actor)
         (search (refused_right, map_at_end, arith)))

@@ -22,7 +22,11 @@ use Rattle.core_state.specs.declared.answer.Answer.TheVariants as answer
 use Rattle.core_state.specs.declared.answer.Kind.TheVariants as kind
 use Rattle.core_state.specs.declared.item.Group.{Group as GroupItem}
 use Rattle.core_state.specs.declared.item.Item.TheVariants.{Group, Call as CallItem}
-use Rattle.core_turns.specs.declared.solving.Solved.TheVariants.{NotYet}
+use Rattle.core_turns.specs.declared.solving.Solved.{Solved}
+use Rattle.core_turns.specs.declared.solving.Solved.TheVariants.{Bytes, Damaged, NotYet}
+use Rattle.core_turns.specs.Getting.{AnswersSolved, IsSolved, answer_of, to_solve_of}
+use Rattle.uberblock_ring.specs.Devices.{count_of}
+use Rattle.std.proofs.lemmas.Bool.{cases_lt}
 use Rattle.schedule.specs.Digests.{IsKnownAs, IsReadAsKnown, ReadsAreKnown}
 use Rattle.schedule.specs.Turned.{BeginsNext, CallGoesOn, gone_on, group_with, listed_of}
 use Rattle.schedule.specs.declared.client.Work.TheVariants as work
@@ -403,11 +407,47 @@ module _ (script : Script) (entries : List IndexEntry) where
         gives_still (answer.TooManyFailed out) stopped = stopped.gives_up.entries
         gives_still other gives = absurd gives
 
-    -- A read is told with the length and the digest of its block.
+    never_bytes : (bytes : List ℕ) → NotYet ≡ Bytes bytes → ⊥
+    never_bytes bytes same = cc
+
+    -- What was solved has the length and the digest of its block.
+    bytes_fit : (run solved : GetRun) (bytes : List ℕ) → run.solved ≡ NotYet → (solved ≡ run) ⊎ SolvesGet run solved
+        → solved.solved ≡ Bytes bytes
+        → (solved.entry ≡ run.entry) × (length bytes ≡ run.entry.len) × (sha256 bytes ≡ run.entry.digest)
+    bytes_fit run solved bytes new (inl same) is =
+        absurd (never_bytes bytes (sym new ∙ sym (ap (λ (r : GetRun). r.solved) same) ∙ is))
+    bytes_fit run solved bytes new (inr did) is =
+        let told = subst (IsSolved (to_solve_of run)) is did.solved in
+        (ap (λ (r : GetRun). r.entry) did.rest, told.0, told.1.given.told.digest)
+
+    -- A read is told with these.
+    bytes_told : (asked : Kind) (run solved : GetRun) (bytes : List ℕ) → KnowsWork items call (work.Read run)
+        → (solved.entry ≡ run.entry) × (length bytes ≡ run.entry.len) × (sha256 bytes ≡ run.entry.digest)
+        → IsReadAsKnown script entries items (length items) (its (answer_of asked solved.entry bytes))
+        (answer_of asked solved.entry bytes)
+    bytes_told kind.Sum run solved bytes (new, (id, id_is, known)) (same, long, digest) = (id, id_is, rw same known)
+    bytes_told other run solved bytes (new, (id, id_is, known)) (same, long, digest) =
+        (id, id_is, rw (long, digest) known)
+
+    end_told : (run solved : GetRun) (given : Answer) → KnowsWork items call (work.Read run)
+        → (solved ≡ run) ⊎ SolvesGet run solved → (state : Solved) → solved.solved ≡ state
+        → AnswersSolved solved state given → IsReadAsKnown script entries items (length items) (its given) given
+    end_told run solved given known solves NotYet is answers =
+        subst (λ a. IsReadAsKnown script entries items (length items) (its a) a) (sym answers) tt
+    end_told run solved given known solves (Bytes bytes) is answers =
+        subst (λ a. IsReadAsKnown script entries items (length items) (its a) a) (sym answers)
+        (bytes_told solved.kind run solved bytes known (bytes_fit run solved bytes known.0 solves is))
+    end_told run solved given known solves Damaged is answers =
+        subst (λ a. IsReadAsKnown script entries items (length items) (its a) a) (sym answers) tt
+
     solved_told : (run : GetRun) (solved : GetRun) (given : Answer) → KnowsWork items call (work.Read run)
         → (solved ≡ run) ⊎ SolvesGet run solved → EndsGet before.core solved after.core (Done given)
         → IsReadAsKnown script entries items (length items) (its given) given
-    solved_told run solved given known solves ends = grind arith
+    solved_told run solved given known solves ends = ⊎_elim
+        (λ many. subst (λ a. IsReadAsKnown script entries items (length items) (its a) a) (sym (ends.too_many many)) tt)
+        (λ few. end_told run solved given known solves solved.solved refl
+        (ends.solved (λ many. omega (arith, few, many))))
+        (cases_lt before.core.pool.uber.parity (count_of before.core.pool.out))
 
     read_told : (run : GetRun) (given : Answer) → KnowsWork items call (work.Read run)
         → EndsReading before after run given → IsReadAsKnown script entries items (length items) (its given) given

@@ -1,15 +1,25 @@
-use Rattle.std.proofs.Common.{◌≡◌, Err, refl, ap}
-use Rattle.std.proofs.lemmas.Result.{err_from_is_err_and}
-use Rattle.core_client.specs.declared.refused.FetchRefused.{FetchRefused}
-use Rattle.core_client.specs.declared.refused.FetchRefused.TheVariants.{Damaged, NoMemory}
+use Rattle.std.proofs.Common.{◌∙◌, ℕ, List, subst, rules}
+use Rattle.reconstruct.specs.declared.pair.Pair.{Pair}
+use Rattle.reconstruct.specs.Suspects.{suspects_of}
+use Rattle.reconstruct.specs.Solved.{question_with, IsDecoded, IsDamaged}
+use Rattle.reconstruct.proofs.Choices.{decoded_by_none, some_at}
 use Rattle.core_client.proofs.fetching.checked_bytes.Goals as goal
 
--- What isn't damaged lacks memory.
-no_memory : (why : FetchRefused) → (why ≡ Damaged → ⊥) → why ≡ NoMemory
-no_memory Damaged whole = absurd (whole refl)
-no_memory NoMemory whole = refl
+pub returns-in-Some-clause-decoded : goal.returns-in-Some-clause-decoded
+returns-in-Some-clause-decoded c =
+    let pairs : List Pair = suspects_of c.args.widths.now.births c.args.widths.now.to c.args.widths.now.mark in
+    subst (λ (masks : List ℕ). IsDecoded (question_with c.args.layout.now c.args.read.now.rows masks c.args.len
+    c.args.digest.now pairs) c.in-Some.bytes.items) c.deref.ensures
+    (decoded_by_none c.args.layout.now c.args.read.now.rows c.deref.result.now c.args.len c.args.digest.now pairs
+    c.in-Some.bytes.items c.in_ok-bytes.ensures.within.is
+    (some_at _ c.in_ok-bytes.field-0 c.in-Some.bytes c.in-Some.is c.in_ok-bytes.ensures.some)
+    (some_at _ c.in_ok-bytes.field-0 c.in-Some.bytes c.in-Some.is c.in_ok-bytes.ensures.alone))
 
-pub returns-in_err-bytes-clause-back : goal.returns-in_err-bytes-clause-back
-returns-in_err-bytes-clause-back c = λ wanted left long bytes digest few.
-    let given = err_from_is_err_and c.from_residual.result c.from_residual.ensures.1 in
-    rw (given.1, given.2) (no_memory _ (λ is. c.in_err-bytes.ensures.cause_damaged (ap Err is) few))
+pub returns-in-Err-Damaged-clause-cause_damaged : goal.returns-in-Err-Damaged-clause-cause_damaged
+returns-in-Err-Damaged-clause-cause_damaged c = λ is.
+    let pairs : List Pair = suspects_of c.args.widths.now.births c.args.widths.now.to c.args.widths.now.mark in
+    subst (λ (masks : List ℕ). IsDamaged (question_with c.args.layout.now c.args.read.now.rows masks c.args.len
+    c.args.digest.now pairs)) c.deref-2.ensures
+    (subst (λ (k : List Pair). IsDamaged (question_with c.args.layout.now c.args.read.now.rows c.deref-2.result.now
+    c.args.len c.args.digest.now k)) (c.deref-3.ensures.value ∙ c.in_ok-pairs.ensures.value)
+    (c.in-Err-Damaged.ensures.cause_damaged (search rules)))
