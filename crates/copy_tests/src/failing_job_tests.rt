@@ -45,7 +45,7 @@ fn told_given_up(alloc: Global, pool: &mut PoolOnBank) -> Result<Option<Answer>,
     if pool.core.out().is_empty() {
         return Err("no device is out".into());
     }
-    Ok(pool.core.job_give_up(run))
+    Ok(pool.core.job_give_up(&run))
 }
 
 /// What the next round is answered at once.

@@ -215,11 +215,9 @@ impl PoolOnBank {
     {
         let mut run = run;
         for _ in 0..MOST_TURNS {
-            run = match self.core.attach_step(alloc, &mut self.bank, run) {
-                Turn::More(next) => next,
-                Turn::Done(answer) => return Ok(answer),
-                Turn::Busy { by: _ } => return Err("an attach waits outside of its commit".into()),
-            };
+            if let Some(answer) = self.core.attach_step(alloc, &mut self.bank, &mut run) {
+                return Ok(answer);
+            }
         }
         Err("an attach has no end".into())
     }
@@ -231,14 +229,13 @@ impl PoolOnBank {
         let mut run = run;
         for _ in 0..MOST_TURNS {
             if !self.core.out().is_empty() {
-                return Ok(Round::GivenUp(self.core.job_give_up(run)));
+                return Ok(Round::GivenUp(self.core.job_give_up(&run)));
             }
             if run.is_done() {
-                let job = run.job();
-                self.core.job_end(run);
-                return Ok(Round::Copied(job));
+                self.core.job_end(&run);
+                return Ok(Round::Copied(run.job()));
             }
-            run = self.core.job_step(&mut self.bank, run);
+            self.core.job_step(&mut self.bank, &mut run);
         }
         Err("a job has no end".into())
     }

@@ -1,15 +1,20 @@
 // Attaches, turn by turn.
-ghost use Rattle.std.specs.Prelude.{◌≡◌, ◌≢◌, ◌+◌, ◌<◌, ◌≤◌, IfSome, None as NoWhy, Some};
+ghost use Rattle.std.specs.Prelude.{◌≡◌, ◌≢◌, ◌+◌, ◌<◌, ◌≤◌, IfSome, None as NoWhy, Option as OptionOf, Some};
 ghost use Rattle.bank_trait.specs.Disk.{Disk};
+ghost use Rattle.attach_ring.specs.Ring.{RingRead as RingReadOf};
 ghost use Rattle.core_state.specs.Outs.{OnlyFailedGoOut};
 ghost use Rattle.core_state.specs.Committing.{point_of};
+ghost use Rattle.core_commit.specs.CommitTurns.{CommitRun as CommitRunOf};
+ghost use Rattle.core_commit.specs.JoinRun.{JoinRun as JoinRunOf};
+ghost use Rattle.core_commit.specs.declared.join_run.WhyDropped.{WhyDropped as WhyOf};
 ghost use Rattle.core_turns.specs.declared.attaching.AttachRun.TheVariants.{Reads as ReadsOf, Checked as CheckedOf};
 ghost use Rattle.core_turns.specs.declared.attaching.AttachRun.TheVariants.{Joins as JoinsOf, Signs as SignsOf};
-ghost use Rattle.core_turns.specs.declared.turn.Turn.TheVariants.{Done};
+ghost use Rattle.core_turns.specs.declared.attaching.FreeDevice.{FreeDevice as FreeDeviceOf};
 ghost use Rattle.core_turns.specs.Core.{IsCore, at_disk, HasBankOf};
 ghost use Rattle.core_turns.specs.Getting.{HasTooManyOut};
 ghost use Rattle.core_turns.specs.Attaching.{AttachGoesOn, BeginsAttach, HasNewDevice, IsAttachable, IsAttachRunOf};
 ghost use Rattle.core_turns.specs.Attaching.{IsMoreAttach, IsNotAttachable, StepsAttach, attach_answer};
+ghost use Rattle.core_turns.specs.Steps.{turn_with};
 
 use crate::turn::too_many;
 use crate::{Core, Turn};
@@ -18,6 +23,7 @@ use bank_trait::Bank;
 use core_commit::{CommitRun, JoinRun, JoinStep, WhyDropped};
 use core_state::Answer;
 use std::alloc::Global;
+use std::mem::replace;
 use uberblock_ring::DeviceSet;
 use width_map::FIRST_DATA_SECTOR;
 
@@ -56,6 +62,13 @@ impl AttachRun {
             AttachRun::Joins(join) => join.syncs_next(out),
             AttachRun::Signs { run, why: _ } => run.syncs_next(out),
         }
+    }
+
+    /// Takes its commit, whose turn gives it back: a ring of which nothing was read stands in its place.
+    fn take(&mut self) -> AttachRun
+        ensures { result ≡ self.old }
+    {
+        replace(self, AttachRun::Reads(RingRead::new(0)))
     }
 }
 
@@ -120,14 +133,14 @@ impl Core {
         &mut self,
         alloc: Global,
         bank: &mut B,
-        run: AttachRun,
-    ) -> Turn<AttachRun>
-        requires of { IsAttachRunOf self.old run }
-        requires there { HasNewDevice (B.disk bank.old) run }
+        run: &mut AttachRun,
+    ) -> Option<Answer>
+        requires of { IsAttachRunOf self.old run.old }
+        requires there { HasNewDevice (B.disk bank.old) run.old }
         requires bank { HasBankOf self.old (B.disk bank.old) }
-        ensures steps { StepsAttach (at_disk self.old (B.disk bank.old)) run
-            (at_disk self.new (B.disk bank.new)) result }
-        ensures of { IsMoreAttach self.new (B.disk bank.new) result }
+        ensures steps { StepsAttach (at_disk self.old (B.disk bank.old)) run.old
+            (at_disk self.new (B.disk bank.new)) (turn_with run.new result) }
+        ensures of { IsMoreAttach self.new (B.disk bank.new) (turn_with run.new result) }
         ensures bank { HasBankOf self.new (B.disk bank.new) }
         ensures out { OnlyFailedGoOut (point_of self.old.pool.out (B.disk bank.old))
             (point_of self.new.pool.out (B.disk bank.new)) }
@@ -141,15 +154,15 @@ impl Core {
         &mut self,
         alloc: Global,
         bank: &mut B,
-        run: AttachRun,
-    ) -> Turn<AttachRun>
-        requires of { IsAttachRunOf self.old run }
-        requires there { HasNewDevice (B.disk bank.old) run }
+        run: &mut AttachRun,
+    ) -> Option<Answer>
+        requires of { IsAttachRunOf self.old run.old }
+        requires there { HasNewDevice (B.disk bank.old) run.old }
         requires bank { HasBankOf self.old (B.disk bank.old) }
         ensures is { IsCore self.old }
-        ensures steps { StepsAttach (at_disk self.old (B.disk bank.old)) run
-            (at_disk self.new (B.disk bank.new)) result }
-        ensures of { IsMoreAttach self.new (B.disk bank.new) result }
+        ensures steps { StepsAttach (at_disk self.old (B.disk bank.old)) run.old
+            (at_disk self.new (B.disk bank.new)) (turn_with run.new result) }
+        ensures of { IsMoreAttach self.new (B.disk bank.new) (turn_with run.new result) }
     {
         if self.has_too_many_out() {
             return self.stop_attach(too_many(self.out));
@@ -157,40 +170,39 @@ impl Core {
         match run {
             AttachRun::Reads(ring) => {
                 if ring.is_whole() {
-                    self.check_device(bank, ring)
+                    self.check_device(bank, run)
                 } else {
                     self.read_slot(bank, ring)
                 }
             }
-            AttachRun::Checked(device) => self.begin_joining(alloc, device),
-            AttachRun::Joins(join) => self.step_join(bank, join),
-            AttachRun::Signs { run, why } => self.step_signing(bank, run, why),
+            AttachRun::Checked(_) => self.begin_joining(alloc, run),
+            AttachRun::Joins(_) => self.step_join(bank, run),
+            AttachRun::Signs { .. } => self.step_signing(bank, run),
         }
     }
 
     /// The attach is answered, and none is under way.
-    fn stop_attach(&mut self, answer: Answer) -> Turn<AttachRun>
+    fn stop_attach(&mut self, answer: Answer) -> Option<Answer>
         ensures core { self.new ≡ record self.old { attaching = NoWhy } }
-        ensures value { result ≡ Done answer }
+        ensures value { result ≡ Some answer }
     {
         self.attaching = None;
-        Turn::Done(answer)
+        Some(answer)
     }
 
     /// Reads the next slot of the new device's ring.
-    fn read_slot<B: Bank>(&mut self, bank: &mut B, ring: RingRead) -> Turn<AttachRun>
-        requires of { IsAttachRunOf self.old (ReadsOf ring) }
-        requires there { HasNewDevice (B.disk bank.old) (ReadsOf ring) }
+    fn read_slot<B: Bank>(&mut self, bank: &mut B, ring: &mut RingRead) -> Option<Answer>
+        requires of { IsAttachRunOf self.old (ReadsOf ring.old) }
+        requires there { HasNewDevice (B.disk bank.old) (ReadsOf ring.old) }
         requires bank { HasBankOf self.old (B.disk bank.old) }
         requires few { HasTooManyOut self.old → ⊥ }
-        requires left { ring.slots < 32 }
-        ensures steps { StepsAttach (at_disk self.old (B.disk bank.old)) (ReadsOf ring)
-            (at_disk self.new (B.disk bank.new)) result }
-        ensures of { IsMoreAttach self.new (B.disk bank.new) result }
+        requires left { ring.old.slots < 32 }
+        ensures steps { StepsAttach (at_disk self.old (B.disk bank.old)) (ReadsOf ring.old)
+            (at_disk self.new (B.disk bank.new)) (turn_with (ReadsOf ring.new) result) }
+        ensures of { IsMoreAttach self.new (B.disk bank.new) (turn_with (ReadsOf ring.new) result) }
     {
-        let mut ring = ring;
         match ring.step(bank) {
-            Ok(()) => Turn::More(AttachRun::Reads(ring)),
+            Ok(()) => None,
             Err(_) => self.stop_attach(Answer::NewDeviceFailed {
                 device: ring.device(),
             }),
@@ -199,16 +211,19 @@ impl Core {
 
     /// Looks whether the ring shows an uberblock; else reads the new device's last data sector, which one that is too
     /// small has not.
-    fn check_device<B: Bank>(&mut self, bank: &mut B, ring: RingRead) -> Turn<AttachRun>
-        requires of { IsAttachRunOf self.old (ReadsOf ring) }
-        requires there { HasNewDevice (B.disk bank.old) (ReadsOf ring) }
+    fn check_device<B: Bank>(&mut self, bank: &mut B, run: &mut AttachRun) -> Option<Answer>
+        requires whole { (ring : RingReadOf) × (run.old ≡ ReadsOf ring) × (ring.slots ≡ 32) }
+        requires of { IsAttachRunOf self.old run.old }
+        requires there { HasNewDevice (B.disk bank.old) run.old }
         requires bank { HasBankOf self.old (B.disk bank.old) }
         requires few { HasTooManyOut self.old → ⊥ }
-        requires whole { ring.slots ≡ 32 }
-        ensures steps { StepsAttach (at_disk self.old (B.disk bank.old)) (ReadsOf ring)
-            (at_disk self.new (B.disk bank.new)) result }
-        ensures of { IsMoreAttach self.new (B.disk bank.new) result }
+        ensures steps { StepsAttach (at_disk self.old (B.disk bank.old)) run.old
+            (at_disk self.new (B.disk bank.new)) (turn_with run.new result) }
+        ensures of { IsMoreAttach self.new (B.disk bank.new) (turn_with run.new result) }
     {
+        let AttachRun::Reads(ring) = run else {
+            unreachable!();
+        };
         if let Some(slot) = ring.taken() {
             return self.stop_attach(Answer::Taken { slot });
         }
@@ -216,72 +231,97 @@ impl Core {
         let last = FIRST_DATA_SECTOR + self.uber.reflow().rows - 1;
         let mut bytes = [0; 512];
         match bank.read(device, last, &mut bytes) {
-            Ok(()) => Turn::More(AttachRun::Checked(FreeDevice {
-                ring,
-                last: bytes[0],
-            })),
+            Ok(()) => {
+                let ring = replace(ring, RingRead::new(device));
+                *run = AttachRun::Checked(FreeDevice {
+                    ring,
+                    last: bytes[0],
+                });
+                None
+            }
             Err(_) => self.stop_attach(Answer::NewDeviceFailed { device }),
         }
     }
 
     /// Begins the commit that the new device may join, unless another is under way.
-    fn begin_joining(&mut self, alloc: Global, device: FreeDevice) -> Turn<AttachRun>
-        requires of { IsAttachRunOf self.old (CheckedOf device) }
+    fn begin_joining(&mut self, alloc: Global, run: &mut AttachRun) -> Option<Answer>
+        requires checked { (device : FreeDeviceOf) × (run.old ≡ CheckedOf device) }
+        requires of { IsAttachRunOf self.old run.old }
         requires few { HasTooManyOut self.old → ⊥ }
-        ensures steps { (disk : Disk) → StepsAttach (at_disk self.old disk) (CheckedOf device) (at_disk self.new disk)
-            result }
-        ensures of { (disk : Disk) → HasNewDevice disk (CheckedOf device) → IsMoreAttach self.new disk result }
+        ensures steps { (disk : Disk) → StepsAttach (at_disk self.old disk) run.old (at_disk self.new disk)
+            (turn_with run.new result) }
+        ensures of { (disk : Disk) → HasNewDevice disk run.old
+            → IsMoreAttach self.new disk (turn_with run.new result) }
     {
         let Some(actor) = self.attaching else {
             unreachable!();
         };
         match self.commit_begin(alloc, actor) {
-            Turn::More(run) => Turn::More(AttachRun::Joins(JoinRun::new(run))),
-            Turn::Busy { by: _ } => Turn::More(AttachRun::Checked(device)),
+            Turn::More(commit) => {
+                *run = AttachRun::Joins(JoinRun::new(commit));
+                None
+            }
+            Turn::Busy { by: _ } => None,
             Turn::Done(answer) => self.stop_attach(answer),
         }
     }
 
     /// The next call of the first half. Where it is done, it is decided whether the device joins, and the first
     /// uberblock write is made.
-    fn step_join<B: Bank>(&mut self, bank: &mut B, join: JoinRun) -> Turn<AttachRun>
-        requires of { IsAttachRunOf self.old (JoinsOf join) }
-        requires there { HasNewDevice (B.disk bank.old) (JoinsOf join) }
+    fn step_join<B: Bank>(&mut self, bank: &mut B, run: &mut AttachRun) -> Option<Answer>
+        requires joins { (join : JoinRunOf) × (run.old ≡ JoinsOf join) }
+        requires of { IsAttachRunOf self.old run.old }
+        requires there { HasNewDevice (B.disk bank.old) run.old }
         requires bank { HasBankOf self.old (B.disk bank.old) }
         requires few { HasTooManyOut self.old → ⊥ }
-        ensures steps { StepsAttach (at_disk self.old (B.disk bank.old)) (JoinsOf join)
-            (at_disk self.new (B.disk bank.new)) result }
-        ensures of { IsMoreAttach self.new (B.disk bank.new) result }
+        ensures steps { StepsAttach (at_disk self.old (B.disk bank.old)) run.old
+            (at_disk self.new (B.disk bank.new)) (turn_with run.new result) }
+        ensures of { IsMoreAttach self.new (B.disk bank.new) (turn_with run.new result) }
     {
+        let AttachRun::Joins(join) = run.take() else {
+            unreachable!();
+        };
         match join.step(bank, &mut self.out) {
-            JoinStep::GoesOn(join) => Turn::More(AttachRun::Joins(join)),
-            JoinStep::Joined(run) => {
-                self.reach += 1;
-                Turn::More(AttachRun::Signs { run, why: None })
+            JoinStep::GoesOn(join) => {
+                *run = AttachRun::Joins(join);
+                None
             }
-            JoinStep::Dropped { run, why } => Turn::More(AttachRun::Signs {
-                run,
-                why: Some(why),
-            }),
+            JoinStep::Joined(commit) => {
+                self.reach += 1;
+                *run = AttachRun::Signs {
+                    run: commit,
+                    why: None,
+                };
+                None
+            }
+            JoinStep::Dropped { run: commit, why } => {
+                *run = AttachRun::Signs {
+                    run: commit,
+                    why: Some(why),
+                };
+                None
+            }
         }
     }
 
     /// The next call of the second half; where none is left the group is answered, and the attach with it.
-    fn step_signing<B: Bank>(
-        &mut self,
-        bank: &mut B,
-        run: CommitRun,
-        why: Option<WhyDropped>,
-    ) -> Turn<AttachRun>
-        requires of { IsAttachRunOf self.old (SignsOf run why) }
+    fn step_signing<B: Bank>(&mut self, bank: &mut B, run: &mut AttachRun) -> Option<Answer>
+        requires signs { (commit : CommitRunOf) × ((because : OptionOf WhyOf) × (run.old ≡ SignsOf commit because)) }
+        requires of { IsAttachRunOf self.old run.old }
         requires bank { HasBankOf self.old (B.disk bank.old) }
         requires few { HasTooManyOut self.old → ⊥ }
-        ensures steps { StepsAttach (at_disk self.old (B.disk bank.old)) (SignsOf run why)
-            (at_disk self.new (B.disk bank.new)) result }
-        ensures of { IsMoreAttach self.new (B.disk bank.new) result }
+        ensures steps { StepsAttach (at_disk self.old (B.disk bank.old)) run.old
+            (at_disk self.new (B.disk bank.new)) (turn_with run.new result) }
+        ensures of { IsMoreAttach self.new (B.disk bank.new) (turn_with run.new result) }
     {
-        match self.make_commit_call(bank, run) {
-            Turn::More(run) => Turn::More(AttachRun::Signs { run, why }),
+        let AttachRun::Signs { run: commit, why } = run.take() else {
+            unreachable!();
+        };
+        match self.make_commit_call(bank, commit) {
+            Turn::More(commit) => {
+                *run = AttachRun::Signs { run: commit, why };
+                None
+            }
             Turn::Done(Answer::Synced { group }) => {
                 let width = self.uber.reflow().to;
                 self.stop_attach(answer_with(why, width, group))

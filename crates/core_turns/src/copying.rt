@@ -85,29 +85,29 @@ impl Core {
 
     /// The next device call of a job: reads a sector, or writes it. A device whose call fails is out from then on, and
     /// the job is given up with its next turn.
-    pub fn job_step<B: Bank>(&mut self, bank: &mut B, run: CopyRun) -> CopyRun
-        requires of { IsJobOf self.old run }
+    pub fn job_step<B: Bank>(&mut self, bank: &mut B, run: &mut CopyRun)
+        requires of { IsJobOf self.old run.old }
         requires whole { self.old.pool.out ≡ 0 }
-        requires left { run.job.made < call_count run.job.reflow run.job.job }
+        requires left { run.old.job.made < call_count run.old.job.reflow run.old.job.job }
         requires bank { HasBankOf self.old (B.disk bank.old) }
-        ensures steps { StepsJob (at_disk self.old (B.disk bank.old)) run
-            (at_disk self.new (B.disk bank.new)) result }
-        ensures of { IsJobOf self.new result }
+        ensures steps { StepsJob (at_disk self.old (B.disk bank.old)) run.old
+            (at_disk self.new (B.disk bank.new)) run.new }
+        ensures of { IsJobOf self.new run.new }
         ensures goes_on { TurnGoesOn (at_disk self.old (B.disk bank.old))
             (at_disk self.new (B.disk bank.new)) }
         ensures bank { HasBankOf self.new (B.disk bank.new) }
         ensures out { OnlyFailedGoOut (point_of self.old.pool.out (B.disk bank.old))
             (point_of self.new.pool.out (B.disk bank.new)) }
     {
-        self.make_job_call(bank, run)
+        self.make_job_call(bank, run);
     }
 
     /// The last turn of a job that has copied all its sectors: the front is behind them.
-    pub fn job_end(&mut self, run: CopyRun)
-        requires of { IsJobOf self.old run }
+    pub fn job_end(&mut self, run: &CopyRun)
+        requires of { IsJobOf self.old run.now }
         requires whole { self.old.pool.out ≡ 0 }
-        requires all { run.job.made ≡ call_count run.job.reflow run.job.job }
-        ensures { EndsJob self.old self.new run }
+        requires all { run.now.job.made ≡ call_count run.now.job.reflow run.now.job.job }
+        ensures { EndsJob self.old self.new run.now }
     {
         let reflow = self.uber.reflow();
         self.done = run.job.job().end(&reflow);
@@ -117,10 +117,10 @@ impl Core {
 
     /// The last turn of a job while a device is out: the front stays where it is. Tells which devices are out where
     /// they are too many.
-    pub fn job_give_up(&mut self, run: CopyRun) -> Option<Answer>
-        requires of { IsJobOf self.old run }
+    pub fn job_give_up(&mut self, run: &CopyRun) -> Option<Answer>
+        requires of { IsJobOf self.old run.now }
         requires lost { self.old.pool.out ≢ 0 }
-        ensures drops { DropsJob self.old self.new run }
+        ensures drops { DropsJob self.old self.new run.now }
         ensures tells { IsGivenUpFor self.old result }
     {
         self.locks.end(run.hold);
@@ -152,18 +152,16 @@ impl Core {
         }
     }
 
-    fn make_job_call<B: Bank>(&mut self, bank: &mut B, run: CopyRun) -> CopyRun
-        requires of { IsJobOf self.old run }
+    fn make_job_call<B: Bank>(&mut self, bank: &mut B, run: &mut CopyRun)
+        requires of { IsJobOf self.old run.old }
         requires whole { self.old.pool.out ≡ 0 }
-        requires left { run.job.made < call_count run.job.reflow run.job.job }
+        requires left { run.old.job.made < call_count run.old.job.reflow run.old.job.job }
         requires bank { HasBankOf self.old (B.disk bank.old) }
         ensures is { IsCore self.old }
-        ensures steps { StepsJob (at_disk self.old (B.disk bank.old)) run
-            (at_disk self.new (B.disk bank.new)) result }
-        ensures of { IsJobOf self.new result }
+        ensures steps { StepsJob (at_disk self.old (B.disk bank.old)) run.old
+            (at_disk self.new (B.disk bank.new)) run.new }
+        ensures of { IsJobOf self.new run.new }
     {
-        let mut run = run;
         run.job.step(bank, &mut self.out);
-        run
     }
 }

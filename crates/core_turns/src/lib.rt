@@ -2,8 +2,8 @@
 //! call.
 //!
 //! A call under way is a value that its caller keeps, a `PutRun`, a `GetRun`, a `CommitRun`, a `CopyRound` or an
-//! `AttachRun`. A turn of a put or a read goes on with it in place; each of any other takes it and gives it back, until
-//! the call is answered. A hold on its sectors keeps others away.
+//! `AttachRun`. A turn goes on with it in place, and only that of a sync takes it and gives it back, until the call is
+//! answered. A hold on its sectors keeps others away.
 //! Read `specs/Core.antt` and `specs/UnderWay.antt`, then `specs/Getting.antt`, `specs/Putting.antt`,
 //! `specs/Committing.antt` and `specs/Copying.antt`. Stands on `core_blocks`, `core_client`, `core_commit`, `core_copy`
 //! and `range_locks`, and on the definitions of `core_open`.

@@ -1,13 +1,15 @@
 // Copies, turn by turn: rounds of jobs and commits.
-ghost use Rattle.std.specs.Prelude.{◌≡◌};
+ghost use Rattle.std.specs.Prelude.{◌≡◌, ℕ, Option as OptionOf};
 ghost use Rattle.bank_trait.specs.Disk.{Disk};
 ghost use Rattle.core_state.specs.Outs.{OnlyFailedGoOut};
 ghost use Rattle.core_state.specs.Committing.{point_of};
+ghost use Rattle.core_commit.specs.CommitTurns.{CommitRun as CommitRunOf};
+ghost use Rattle.core_turns.specs.declared.copying.CopyRun.{CopyRun as CopyRunOf};
 ghost use Rattle.core_turns.specs.declared.rounds.CopyRound.TheVariants.{Copies as CopiesOf, Commits as CommitsOf};
+ghost use Rattle.core_turns.specs.declared.rounds.CopyRound.TheVariants.{Rests as RestsOf};
 ghost use Rattle.core_turns.specs.Core.{IsCore, at_disk, HasBankOf};
-ghost use Rattle.core_turns.specs.Committing.{IsCommitOf};
-ghost use Rattle.core_turns.specs.Copying.{IsJobOf};
 ghost use Rattle.core_turns.specs.Rounds.{BeginsRound, IsMoreRound, IsRoundOf, StepsCopy};
+ghost use Rattle.core_turns.specs.Steps.{turn_with};
 ghost use Rattle.core_turns.specs.UnderWay.{TurnGoesOn};
 
 use crate::copying::{CopyRun, JobBegin};
@@ -16,6 +18,7 @@ use bank_trait::Bank;
 use core_commit::CommitRun;
 use core_state::Answer;
 use std::alloc::Global;
+use std::mem::replace;
 use uberblock_ring::DeviceSet;
 
 /// What a copy has under way between two of its turns.
@@ -38,6 +41,14 @@ impl CopyRound {
             CopyRound::Commits(run) => run.syncs_next(out),
         }
     }
+
+    /// Nothing is under way from here on: a round of this actor's copy is to begin, behind a commit that made this
+    /// group, if one did.
+    fn rest(&mut self, actor: u8, made: Option<u64>)
+        ensures { self.new ≡ RestsOf actor made }
+    {
+        *self = CopyRound::Rests { actor, made };
+    }
 }
 
 impl Core {
@@ -58,13 +69,13 @@ impl Core {
         &mut self,
         alloc: Global,
         bank: &mut B,
-        round: CopyRound,
-    ) -> Turn<CopyRound>
-        requires of { IsRoundOf self.old round }
+        round: &mut CopyRound,
+    ) -> Option<Answer>
+        requires of { IsRoundOf self.old round.old }
         requires bank { HasBankOf self.old (B.disk bank.old) }
-        ensures steps { StepsCopy (at_disk self.old (B.disk bank.old)) round
-            (at_disk self.new (B.disk bank.new)) result }
-        ensures of { IsMoreRound self.new result }
+        ensures steps { StepsCopy (at_disk self.old (B.disk bank.old)) round.old
+            (at_disk self.new (B.disk bank.new)) (turn_with round.new result) }
+        ensures of { IsMoreRound self.new (turn_with round.new result) }
         ensures bank { HasBankOf self.new (B.disk bank.new) }
         ensures goes_on { TurnGoesOn (at_disk self.old (B.disk bank.old))
             (at_disk self.new (B.disk bank.new)) }
@@ -93,67 +104,107 @@ impl Core {
         &mut self,
         alloc: Global,
         bank: &mut B,
-        round: CopyRound,
-    ) -> Turn<CopyRound>
-        requires of { IsRoundOf self.old round }
+        round: &mut CopyRound,
+    ) -> Option<Answer>
+        requires of { IsRoundOf self.old round.old }
         requires bank { HasBankOf self.old (B.disk bank.old) }
         ensures is { IsCore self.old }
-        ensures steps { StepsCopy (at_disk self.old (B.disk bank.old)) round
-            (at_disk self.new (B.disk bank.new)) result }
-        ensures of { IsMoreRound self.new result }
+        ensures steps { StepsCopy (at_disk self.old (B.disk bank.old)) round.old
+            (at_disk self.new (B.disk bank.new)) (turn_with round.new result) }
+        ensures of { IsMoreRound self.new (turn_with round.new result) }
     {
         match round {
-            CopyRound::Rests { actor, made: _ } => match self.begin_round(alloc, actor) {
-                Turn::Busy { by: _ } => Turn::More(CopyRound::Rests { actor, made: None }),
-                begun => begun,
-            },
-            CopyRound::Copies(run) => self.step_copying(bank, run),
-            CopyRound::Commits(run) => self.step_commit_of_copy(bank, run),
+            CopyRound::Rests { .. } => self.begin_next_round(alloc, round),
+            CopyRound::Copies(_) => self.step_copying(bank, round),
+            CopyRound::Commits(_) => self.step_commit_of_copy(bank, round),
+        }
+    }
+
+    /// The next round of a copy that rests begins, or waits.
+    fn begin_next_round(&mut self, alloc: Global, round: &mut CopyRound) -> Option<Answer>
+        requires rests { (actor : ℕ) × ((made : OptionOf ℕ) × (round.old ≡ RestsOf actor made)) }
+        ensures is { IsCore self.old }
+        ensures steps { (disk : Disk) → StepsCopy (at_disk self.old disk) round.old (at_disk self.new disk)
+            (turn_with round.new result) }
+        ensures of { IsMoreRound self.new (turn_with round.new result) }
+    {
+        let CopyRound::Rests { actor, made: _ } = *round else {
+            unreachable!();
+        };
+        match self.begin_round(alloc, actor) {
+            Turn::More(begun) => {
+                *round = begun;
+                None
+            }
+            Turn::Busy { by: _ } => {
+                round.rest(actor, None);
+                None
+            }
+            Turn::Done(answer) => Some(answer),
         }
     }
 
     /// The next device call of a copy's job, or its end.
-    fn step_copying<B: Bank>(&mut self, bank: &mut B, run: CopyRun) -> Turn<CopyRound>
-        requires of { IsJobOf self.old run }
+    fn step_copying<B: Bank>(&mut self, bank: &mut B, round: &mut CopyRound) -> Option<Answer>
+        requires copies { (run : CopyRunOf) × (round.old ≡ CopiesOf run) }
+        requires of { IsRoundOf self.old round.old }
         requires bank { HasBankOf self.old (B.disk bank.old) }
-        ensures steps { StepsCopy (at_disk self.old (B.disk bank.old)) (CopiesOf run)
-            (at_disk self.new (B.disk bank.new)) result }
-        ensures of { IsMoreRound self.new result }
+        ensures steps { StepsCopy (at_disk self.old (B.disk bank.old)) round.old
+            (at_disk self.new (B.disk bank.new)) (turn_with round.new result) }
+        ensures of { IsMoreRound self.new (turn_with round.new result) }
         ensures is { IsCore self.old }
     {
+        let CopyRound::Copies(run) = round else {
+            unreachable!();
+        };
         let actor = run.actor();
         if !self.out.is_empty() {
-            return match self.job_give_up(run) {
-                Some(answer) => Turn::Done(answer),
-                None => Turn::More(CopyRound::Rests { actor, made: None }),
-            };
+            if let Some(answer) = self.job_give_up(run) {
+                return Some(answer);
+            }
+            round.rest(actor, None);
+            return None;
         }
         if run.is_done() {
             self.job_end(run);
-            return Turn::More(CopyRound::Rests { actor, made: None });
+            round.rest(actor, None);
+            return None;
         }
-        Turn::More(CopyRound::Copies(self.job_step(bank, run)))
+        self.job_step(bank, run);
+        None
     }
 
     /// The next device call of a copy's commit, or the answer of its group, behind which the copy goes on.
-    fn step_commit_of_copy<B: Bank>(&mut self, bank: &mut B, run: CommitRun) -> Turn<CopyRound>
-        requires of { IsCommitOf self.old run }
+    fn step_commit_of_copy<B: Bank>(
+        &mut self,
+        bank: &mut B,
+        round: &mut CopyRound,
+    ) -> Option<Answer>
+        requires commits { (run : CommitRunOf) × (round.old ≡ CommitsOf run) }
+        requires of { IsRoundOf self.old round.old }
         requires bank { HasBankOf self.old (B.disk bank.old) }
-        ensures steps { StepsCopy (at_disk self.old (B.disk bank.old)) (CommitsOf run)
-            (at_disk self.new (B.disk bank.new)) result }
-        ensures of { IsMoreRound self.new result }
+        ensures steps { StepsCopy (at_disk self.old (B.disk bank.old)) round.old
+            (at_disk self.new (B.disk bank.new)) (turn_with round.new result) }
+        ensures of { IsMoreRound self.new (turn_with round.new result) }
         ensures is { IsCore self.old }
     {
         let Some(actor) = self.committing else {
             unreachable!();
         };
+        // A commit's turn takes it and gives it back: a copy that rests stands in its place.
+        let CopyRound::Commits(run) = replace(round, CopyRound::Rests { actor, made: None }) else {
+            unreachable!();
+        };
         match self.commit_step(bank, run) {
-            Turn::More(run) => Turn::More(CopyRound::Commits(run)),
-            Turn::Done(Answer::Synced { group }) => Turn::More(CopyRound::Rests {
-                actor,
-                made: Some(group),
-            }),
-            Turn::Done(answer) => Turn::Done(answer),
+            Turn::More(run) => {
+                *round = CopyRound::Commits(run);
+                None
+            }
+            Turn::Done(Answer::Synced { group }) => {
+                round.rest(actor, Some(group));
+                None
+            }
+            Turn::Done(answer) => Some(answer),
             Turn::Busy { by: _ } => unreachable!(),
         }
     }

@@ -34,16 +34,6 @@ pub enum Next {
     Ended,
 }
 
-impl Next {
-    /// Whether a turn of the client of this number follows in the same hold of the lock: one for which nothing is to be
-    /// computed first, and which syncs no device.
-    fn goes_on_at_once<B: Bank>(&self, live: &Live<B>, actor: u8) -> bool
-        ensures { IsTrue result → self.now ≡ GoesOn to_compute.Nothing }
-    {
-        matches!(self, Next::GoesOn(ToCompute::Nothing)) && !live.syncs_next(actor)
-    }
-}
-
 /// The turns that a client had one after the other, while no other had one.
 #[derive(Drop)]
 pub struct Batch {
@@ -79,6 +69,26 @@ fn next_of(
         Next::Waits
     } else {
         Next::GoesOn(ToCompute::Nothing)
+    }
+}
+
+/// Whether a turn of the client of this number follows in the same hold of the lock, after one by which the journal
+/// came from so many items to this: one for which nothing is to be computed first, and which syncs no device. A call's
+/// first turn is one, unless it found another's call in its way in the turn before.
+fn goes_on_at_once<B: Bank>(
+    live: &Live<B>,
+    script: &Script,
+    actor: u8,
+    before: usize,
+    now: usize,
+) -> bool
+    ensures { IsTrue result → IsNextFor script.now actor (turns_in B.disk live.now) live.now.progress.turns
+        (GoesOn to_compute.Nothing) }
+{
+    if live.progress.is_busy(actor) {
+        !live.progress.asks(actor) && !live.syncs_next(actor)
+    } else {
+        now != before && live.progress.has_turn(script, actor)
     }
 }
 
@@ -144,12 +154,11 @@ fn have_turns<B: Bank>(
         turns += 1;
         let now = live.journal.len();
         answered += count_answered(&live.progress, actor, before, now);
-        let next = next_of(alloc, &mut live.progress, script, actor, before, now);
-        if !next.goes_on_at_once(live, actor) {
+        if !goes_on_at_once(live, script, actor, before, now) {
             return Batch {
                 turns,
                 answered,
-                next,
+                next: next_of(alloc, &mut live.progress, script, actor, before, now),
             };
         }
         computed = Computed::Nothing;

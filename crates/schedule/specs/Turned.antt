@@ -311,12 +311,6 @@ MayGoOn core call (work.Sync run) = IsCommitOf core run
 MayGoOn core call (work.Attach run) = IsAttachRunOf core run
 MayGoOn core call (work.Copy round) = IsRoundOf core round
 
--- It is a sync, an attach or a copy, and reads and writes no single block.
-abbrev pub IsOfPool : Work → Type 0
-IsOfPool (work.Put run) = ⊥
-IsOfPool (work.Read run) = ⊥
-IsOfPool other = ⊤
-
 -- The bank has the device that an attach is to bring.
 abbrev pub HasDeviceFor : Disk → Work → Type 0
 HasDeviceFor disk (work.Attach run) = HasNewDevice disk run

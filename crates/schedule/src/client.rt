@@ -1,10 +1,11 @@
 // What a client has come to.
-ghost use Rattle.std.specs.Prelude.{◌≡◌, ◌≤◌, ◌↔◌, List, IsTrue, Some, None, slice_get};
+ghost use Rattle.std.specs.Prelude.{◌≡◌, ◌≤◌, ◌↔◌, ℕ, List, IsTrue, Some, None, false, slice_get};
 ghost use Rattle.client_script.specs.declared.call.ScriptCall.{ScriptCall as CallOf};
 ghost use Rattle.core_turns.specs.Core.{Core as CoreOf};
 ghost use Rattle.schedule.specs.declared.client.UnderWay.{UnderWay as UnderWayOf};
 ghost use Rattle.core_turns.specs.declared.rounds.CopyRound.TheVariants.{Rests};
 ghost use Rattle.schedule.specs.declared.client.Work.TheVariants as work;
+ghost use Rattle.schedule.specs.declared.computing.ToCompute.TheVariants as to_compute;
 ghost use Rattle.schedule.specs.Computing.{IsComputable, IsAskedBy, IsAskedOf, MayGoOnAs};
 ghost use Rattle.schedule.specs.Turned.{MayGoOn};
 ghost use Rattle.schedule.specs.Works.{MakesCommit, made_by, made_in};
@@ -76,6 +77,18 @@ impl Work {
             Work::Sync(run) => run.syncs_next(out),
             Work::Attach(run) => run.syncs_next(out),
             Work::Copy(round) => round.syncs_next(out),
+        }
+    }
+
+    /// Whether its next turn asks for something to be computed, where there is memory for that: a put for its block,
+    /// until it is filled in, and a read for its, once it has all columns.
+    fn asks(&self) -> bool
+        ensures { result ≡ false → (number : ℕ) → IsAskedOf number self.now to_compute.Nothing }
+    {
+        match self {
+            Work::Put(run) => !run.is_filled(),
+            Work::Read(run) => run.is_read(),
+            _ => false,
         }
     }
 
@@ -157,6 +170,16 @@ impl Client {
     pub fn syncs_next(&self, out: DeviceSet) -> bool {
         match &self.under_way {
             Some(under_way) => under_way.work.syncs_next(out),
+            None => false,
+        }
+    }
+
+    /// Whether the next turn of its call under way asks for something to be computed, if it has one.
+    pub fn asks(&self) -> bool
+        ensures { result ≡ false → (calls : List CallOf) → IsAskedBy calls self.now to_compute.Nothing }
+    {
+        match &self.under_way {
+            Some(under_way) => under_way.work.asks(),
             None => false,
         }
     }

@@ -1,9 +1,11 @@
 // What the clients of a run have come to.
-ghost use Rattle.std.specs.Prelude.{◌≡◌, ◌+◌, ◌<◌, ◌≤◌, ℕ, List, IfOk, OnOk, OnErr, Some, slice_get};
+ghost use Rattle.std.specs.Prelude.{◌≡◌, ◌+◌, ◌<◌, ◌≤◌, ℕ, List, IfOk, OnOk, OnErr, Some, false, slice_get};
+ghost use Rattle.client_script.specs.declared.call.ScriptCall.{ScriptCall as CallOf};
 ghost use Rattle.client_script.specs.Script.{calls_of};
 ghost use Rattle.core_state.specs.declared.item.Item.{Item as ItemOf};
 ghost use Rattle.core_turns.specs.Core.{CoreState};
 ghost use Rattle.schedule.specs.declared.client.Client.{Client as ClientOf};
+ghost use Rattle.schedule.specs.declared.computing.ToCompute.TheVariants as to_compute;
 ghost use Rattle.schedule.specs.Computing.{IsComputable, IsAskedBy};
 ghost use Rattle.schedule.specs.Playing.{IsReady};
 ghost use Rattle.schedule.specs.InTurn.{has_left_at, has_turn_at, is_any_busy, is_busy_at};
@@ -82,6 +84,17 @@ impl Progress {
     pub fn syncs_next(&self, actor: u8, out: DeviceSet) -> bool {
         match self.clients.get(usize::from(actor)) {
             Some(client) => client.syncs_next(out),
+            None => false,
+        }
+    }
+
+    /// Whether the next turn of the call that a client has under way asks for something to be computed.
+    pub fn asks(&self, actor: u8) -> bool
+        ensures { result ≡ false → (calls : List CallOf) (client : ClientOf)
+            → slice_get self.now.clients.items actor ≡ Some client → IsAskedBy calls client to_compute.Nothing }
+    {
+        match self.clients.get(usize::from(actor)) {
+            Some(client) => client.asks(),
             None => false,
         }
     }

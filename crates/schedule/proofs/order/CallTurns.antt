@@ -8,8 +8,8 @@ use Rattle.schedule.specs.declared.computing.ToCompute.TheVariants as to_compute
 use Rattle.core_turns.specs.declared.solving.ToSolve.{ToSolve}
 use Rattle.schedule.specs.Computing.{FitsWork, IsAskedOf, IsComputed, for_call}
 use Rattle.schedule.proofs.Words.{arith, IsTrue, is_some, false≢true, Disk, Unchanged, rows_of, Uber, OnlyFailedGoOut}
-use Rattle.schedule.proofs.Words.{point_of, read_touches, ScriptCall, fill_bytes, pattern_from, AttachRun, CopyRound}
-use Rattle.schedule.proofs.Words.{IsMoreAttach, StepsAttach, IsMoreRound, StepsCopy, GetRun, ToFill, Blocks, IsUnderWay}
+use Rattle.schedule.proofs.Words.{point_of, read_touches, ScriptCall, fill_bytes, pattern_from}
+use Rattle.schedule.proofs.Words.{GetRun, ToFill, Blocks, IsUnderWay}
 use Rattle.schedule.proofs.Words.{PutRun, Turn, Done, Core, CoreState, at_disk, IsReadKind, IsGetOf, BeginsGet}
 use Rattle.schedule.proofs.Words.{ReadsTurn, SolvesGet, EndsGet, IsFillable, IsPutOf, FillsPut, EndsPut, GivesUpTurn}
 use Rattle.schedule.proofs.Words.{left_to_fill, to_fill_of, TurnGoesOn, reads_reaching, fills_of, Work, MakesRoom}
@@ -134,25 +134,9 @@ pub put_computable : {core : Core} (call : ScriptCall) {run : PutRun} {block : T
     → left_to_fill run run.filled ≡ Some block → IsFillable block (fill_bytes call.fill)
 put_computable call may left = grind (arith, put_fillable)
 
--- ---- attaches
-
--- A turn of an attach is that of its call.
-pub attach_by : (before after : CoreState) (call : ScriptCall) (run : AttachRun) (turn : Turn AttachRun)
-    (result : Turn Work) → StepsAttach before run after turn → IsMoreAttach after.core after.disk turn
-    → MapsTurn (λ next does. does ≡ work.Attach next) turn result
-    → GoesOnBy before after call (work.Attach run) result
-attach_by before after call run turn result steps of maps = grind arith
-
 -- ---- copies
 
--- So is one of a copy.
-pub copy_by : (before after : CoreState) (call : ScriptCall) (round : CopyRound) (turn : Turn CopyRound)
-    (result : Turn Work) → StepsCopy before round after turn → IsMoreRound after.core turn
-    → MapsTurn (λ next does. does ≡ work.Copy next) turn result
-    → GoesOnBy before after call (work.Copy round) result
-copy_by before after call round turn result steps of maps = grind arith
-
--- One for whose next group there is no memory ends there, and nothing is done.
+-- A copy for whose next group there is no memory ends there, and nothing is done.
 pub lacks_room : (state : CoreState) (call : ScriptCall) (does : Work) {made : Option ℕ} → made ≡ made_in does
     → IsTrue (is_some made) → GoesOnBy state state call does (Done answer.NoMemory)
 lacks_room state call other is some = grind (arith, false≢true)
