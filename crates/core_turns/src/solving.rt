@@ -12,10 +12,9 @@ use core_client::{ColumnsRead, FetchRefused, SharedColumns, Widths, checked_byte
 use core_state::Bytes;
 use row_layout::Layout;
 use std::alloc::Global;
-use width_map::Births;
 
-/// What a read is to solve: the columns that it got, the length and digest of the block's bytes, and the widths at which
-/// its sectors may have stood.
+/// What a read is to solve: the columns that it got, the length and digest of the block's bytes, and the widths at
+/// which its sectors may have stood.
 #[derive(Drop)]
 pub struct ToSolve {
     pub(crate) layout: Layout,
@@ -140,13 +139,7 @@ pub(crate) fn solve_columns(
 fn are_same(one: &Widths, other: &Widths) -> bool
     ensures { IsTrue result ↔ (one.now ≡ other.now) }
 {
-    one.to == other.to && one.mark == other.mark && have_same_births(&one.births, &other.births)
-}
-
-fn have_same_births(one: &Births, other: &Births) -> bool
-    ensures { IsTrue result ↔ (one.now ≡ other.now) }
-{
-    one.as_slice() == other.as_slice()
+    one.to == other.to && one.mark == other.mark && one.births.is_same(&other.births)
 }
 
 /// Whether two readings of a block lost and got the same.

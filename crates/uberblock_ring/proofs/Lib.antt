@@ -1,5 +1,4 @@
 pub mod Rows
-pub mod SameBirths
 pub mod OneSpelling
 pub mod Digest
 pub mod DeviceSets

@@ -28,17 +28,11 @@ fn have_same_widths(one: &Uber, other: &Uber) -> bool
     if one.parity() != other.parity() {
         return false;
     }
-    have_same_reflow(one, other) && have_same_births(one, other)
+    have_same_reflow(one, other) && one.births().is_same(other.births())
 }
 
 fn have_same_reflow(one: &Uber, other: &Uber) -> bool
     ensures { IsTrue result ↔ (one.now.reflow ≡ other.now.reflow) }
 {
     one.reflow() == other.reflow()
-}
-
-fn have_same_births(one: &Uber, other: &Uber) -> bool
-    ensures { IsTrue result ↔ (one.now.births ≡ other.now.births) }
-{
-    one.births().as_slice() == other.births().as_slice()
 }

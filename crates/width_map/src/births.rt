@@ -1,5 +1,5 @@
 // The widths that the pool has had.
-ghost use Rattle.std.specs.Prelude.{◌≡◌, ℕ, ◌+◌, ◌<◌, ◌≤◌, ◌^◌, length, SomeIff};
+ghost use Rattle.std.specs.Prelude.{◌≡◌, ℕ, ◌+◌, ◌<◌, ◌≤◌, ◌^◌, ◌↔◌, length, IsTrue, SomeIff};
 ghost use Rattle.width_map.specs.Births.{first_births, births_after, width_of_birth, last_width, IsGrowing, NoneAbove};
 ghost use Rattle.width_map.specs.Births.{BirthsFit};
 
@@ -53,6 +53,13 @@ impl Births {
         ensures room { length self.now ≤ MAX_BIRTHS }
     {
         &self.entries[..self.used]
+    }
+
+    /// Whether both tables have the same entries.
+    pub fn is_same(&self, other: &Births) -> bool
+        ensures { IsTrue result ↔ (self.now ≡ other.now) }
+    {
+        self.as_slice() == other.as_slice()
     }
 
     /// The table of these entries, where they fit and there is one.

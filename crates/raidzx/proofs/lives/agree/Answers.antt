@@ -1,7 +1,7 @@
 use Rattle.std.proofs.Common.{◌≡◌, ℕ, subst, take}
 use Rattle.std.specs.Bool.{Decides}
 use Rattle.std.proofs.lemmas.Slice.Eq.{slice_eq-Decides}
-use Rattle.uberblock_ring.proofs.SameBirths.{same_birth}
+use Rattle.width_map.proofs.SameBirths.{same_birth}
 use Rattle.raidzx.proofs.lives.agree.Goals as goal
 
 pub returns : goal.returns

@@ -1,0 +1,10 @@
+pub mod Simple
+pub mod Subcommands
+pub mod Texts
+pub mod Digits
+pub mod Spelling
+pub mod Uniqueness
+pub mod Served
+pub mod Values
+pub mod Creating
+pub mod Rows
