@@ -6,8 +6,9 @@ use Rattle.reconstruct.specs.Rows.{sectors_for}
 use Rattle.reconstruct.specs.Lost.{AreBytes, IsLeftOver}
 use Rattle.reconstruct.specs.Suspects.{suspects_of}
 use Rattle.reconstruct.specs.Solved.{question_with, IsDecoded, IsDamaged}
-use Rattle.reconstruct.specs.Covered.{IsAskedOf, Covers}
+use Rattle.reconstruct.specs.Covered.{IsChoiceAsked, Covers}
 use Rattle.reconstruct.proofs.Covered.{first_choice, covered_undamaged, decoded_long, left_covered}
+use Rattle.reconstruct.proofs.TooFew.{too_few_gives_none}
 use Rattle.reconstruct.proofs.SameColumns.{HaveSameColumns, decoded_same, damaged_same}
 use Rattle.core_client.specs.declared.columns_read.ColumnsRead.{ColumnsRead}
 use Rattle.core_client.specs.declared.widths.Widths.{Widths}
@@ -22,10 +23,18 @@ module _ (layout : Layout) (read : ColumnsRead) (len : ℕ) (digest : List ℕ) 
   decoded_fits bytes decoded =
       (decoded_long (question_of layout read len digest widths) bytes sectors decoded, decoded.given.told.digest)
 
+  -- Law: Where some row has lost more columns than it has parity, the block is damaged.
+  pub many_damaged : (HasLostFew layout read → ⊥) → IsDamaged (question_of layout read len digest widths)
+  many_damaged many choice bytes given = many (record {
+    each = λ row row_in few.
+        too_few_gives_none layout read.rows read.lost.items len digest (suspects_of widths.births widths.to widths.mark)
+        row row_in few choice bytes given;
+  })
+
   module _ (content : List ℕ) (is : IsLayout layout) (left : IsLeftOver layout content read.rows read.lost.items)
       (few : HasLostFew layout read) (long : length content ≡ len) (all : AreBytes content)
       (digest_is : sha256 content ≡ digest) where
-    asked : IsAskedOf (question_of layout read len digest widths) content
+    asked : IsChoiceAsked (question_of layout read len digest widths) content
     asked = record { layout = is; sectors = sectors; len = long; are_bytes = all; digest = digest_is }
 
     covered : Covers (question_of layout read len digest widths) [] content

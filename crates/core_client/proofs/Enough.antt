@@ -1,8 +1,8 @@
 -- Where few devices are out, no row has lost too much.
-use Rattle.std.proofs.Common.{◌≡◌, ◌≢◌, ⊎_elim, ℕ, zero, suc, ◌+◌, ◌-◌, ◌%◌, ◌<◌, ◌≤◌, Bool, true, false}
-use Rattle.std.proofs.Common.{refl, sym, ◌∙◌, ap, arith}
+use Rattle.std.proofs.Common.{◌≡◌, ◌≢◌, ⊎_elim, ℕ, zero, suc, ◌+◌, ◌-◌, ◌%◌, ◌<◌, ◌≤◌, Bool, true, false, refl, sym}
+use Rattle.std.proofs.Common.{◌∙◌, ap, arith}
 use Rattle.std.specs.Prelude.{◌&&◌, ◌==◌, not, if◌then◌else◌}
-use Rattle.std.proofs.lemmas.Bool.{cases_lt, true≢false}
+use Rattle.std.proofs.lemmas.Bool.{cases_lt}
 use Rattle.std.proofs.lemmas.Bool.Decides.{nat_tests}
 use Rattle.std.proofs.Math.Nat.{mod-lt}
 use Rattle.reflow_mark.specs.declared.reflow.Reflow.{Reflow}
@@ -13,7 +13,7 @@ use Rattle.row_layout.specs.Layout.{Layout, rows_of, columns_of, columns_in, sec
 use Rattle.row_layout.proofs.Parts.{row_few}
 use Rattle.row_layout.proofs.Laws.{columns_apart}
 use Rattle.gf_solve.specs.Row.{count_lost}
-use Rattle.gf_solve.proofs.Counting.{count_split}
+use Rattle.gf_solve.proofs.Counting.{count_split, count_mono}
 use Rattle.reconstruct.specs.Lost.{HasTooFew}
 use Rattle.uberblock_ring.specs.Devices.{has_device, count_below, count_of}
 use Rattle.core_client.specs.declared.columns_read.ColumnsRead.{ColumnsRead}
@@ -39,22 +39,6 @@ count_nothing lost first zero none = refl
 count_nothing lost first (suc some) none =
     ap (λ (b : Bool). (if b then 1 else 0) + count_lost lost (first + 1) some) (none first (omega arith) (omega arith))
     ∙ omega (arith, count_nothing lost (first + 1) some (λ k from below. none k (omega (arith, from)) (omega (arith, below))))
-
--- Where each that is lost is lost in another way too, the others are as many at least.
-count_mono : (lost other : ℕ → Bool) (first some : ℕ) → ((k : ℕ) → first ≤ k → k < first + some → lost k ≡ true → other k ≡ true)
-    → count_lost lost first some ≤ count_lost other first some
-count_mono lost other first zero also = omega arith
-count_mono lost other first (suc some) also =
-    omega (
-      arith,
-      here (lost first) (other first) (also first (omega arith) (omega arith)),
-      count_mono lost other (first + 1) some (λ k from below. also k (omega (arith, from)) (omega (arith, below))),
-    )
-  where
-    here : (b c : Bool) → (b ≡ true → c ≡ true) → (if b then 1 else 0) ≤ (if c then 1 else 0)
-    here true true both = omega arith
-    here true false both = absurd (true≢false (sym (both refl)))
-    here false c both = omega arith
 
 -- ---- rows
 
@@ -192,7 +176,7 @@ goes_round layout reflow New widths = record {
 }
 
 -- Where no more devices are out than there are parities, enough of each row is left.
-few_enough : (layout : Layout) (reflow : Reflow) (out : ℕ) → IsInPool layout reflow → count_of out ≤ layout.parity
+pub few_enough : (layout : Layout) (reflow : Reflow) (out : ℕ) → IsInPool layout reflow → count_of out ≤ layout.parity
     → HasEnough layout reflow out
 few_enough layout reflow out pool few = record {
   each = λ row row_in.

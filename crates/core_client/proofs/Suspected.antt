@@ -48,32 +48,31 @@ mark_widened : (births : List Birth) (to mark : ℕ) → to ≡ last_width birth
 mark_widened births to mark last = grind (arith, nat_tests, last)
 
 -- The width at which a row is read is that of the suspects.
+width_up_to_mark : (wider : Stand) (reflow : Reflow) (pair : Pair) (row_end : ℕ) → 0 < reflow.from → Expands reflow
+    → width_of wider reflow ≡ reflow.to → pair.width ≡ reflow.to → pair.mark ≡ reflow.mark
+    → width_of (if nat_le row_end reflow.mark then wider else Old) reflow ≡ width_at_end pair row_end
+unfolding width_of
+width_up_to_mark wider reflow pair row_end wide expands wider_is width mark = ⊎_elim
+    (λ (above : reflow.mark < row_end).
+    let test : nat_le row_end reflow.mark ≡ false = grind (arith, nat_tests, above) in
+    ap (λ (b : Bool). width_of (if b then wider else Old) reflow) test
+    ∙ sym (narrower pair row_end (omega (arith, above, mark)) ∙ omega (arith, width, expands, wide)))
+    (λ (within : row_end ≤ reflow.mark).
+    let test : nat_le row_end reflow.mark ≡ true = grind (arith, nat_tests, within) in
+    ap (λ (b : Bool). width_of (if b then wider else Old) reflow) test
+    ∙ wider_is ∙ sym (as_wide pair row_end (omega (arith, within, mark)) ∙ width))
+    (cases_lt reflow.mark row_end)
+
 width_when_widened : (state : State) (reflow : Reflow) (pair : Pair) (row_end : ℕ) → 0 < row_end → 0 < reflow.from
     → Expands reflow → IsMark state reflow → pair.width ≡ reflow.to → pair.mark ≡ reflow.mark
     → width_of (stand_of state reflow.mark row_end) reflow ≡ width_at_end pair row_end
 unfolding width_of
 width_when_widened None reflow pair row_end some wide expands none width mark =
     sym (narrower pair row_end (omega (arith, some, mark, none)) ∙ omega (arith, width, expands, wide))
-width_when_widened Valid reflow pair row_end some wide expands is width mark = ⊎_elim
-    (λ (above : reflow.mark < row_end).
-    let test : nat_le row_end reflow.mark ≡ false = grind (arith, nat_tests, above) in
-    ap (λ (b : Bool). width_of (if b then Scratch else Old) reflow) test
-    ∙ sym (narrower pair row_end (omega (arith, above, mark)) ∙ omega (arith, width, expands, wide)))
-    (λ (within : row_end ≤ reflow.mark).
-    let test : nat_le row_end reflow.mark ≡ true = grind (arith, nat_tests, within) in
-    ap (λ (b : Bool). width_of (if b then Scratch else Old) reflow) test
-    ∙ sym (as_wide pair row_end (omega (arith, within, mark)) ∙ width))
-    (cases_lt reflow.mark row_end)
-width_when_widened Moved reflow pair row_end some wide expands is width mark = ⊎_elim
-    (λ (above : reflow.mark < row_end).
-    let test : nat_le row_end reflow.mark ≡ false = grind (arith, nat_tests, above) in
-    ap (λ (b : Bool). width_of (if b then New else Old) reflow) test
-    ∙ sym (narrower pair row_end (omega (arith, above, mark)) ∙ omega (arith, width, expands, wide)))
-    (λ (within : row_end ≤ reflow.mark).
-    let test : nat_le row_end reflow.mark ≡ true = grind (arith, nat_tests, within) in
-    ap (λ (b : Bool). width_of (if b then New else Old) reflow) test
-    ∙ sym (as_wide pair row_end (omega (arith, within, mark)) ∙ width))
-    (cases_lt reflow.mark row_end)
+width_when_widened Valid reflow pair row_end some wide expands is width mark =
+    width_up_to_mark Scratch reflow pair row_end wide expands refl width mark
+width_when_widened Moved reflow pair row_end some wide expands is width mark =
+    width_up_to_mark New reflow pair row_end wide expands refl width mark
 
 module _ (layout : Layout) (reflow : Reflow) (births : List Birth) (row column device : ℕ)
     (pool : IsInPool layout reflow) (last : last_width births ≡ reflow.from) (there : IsColumn layout row column) where

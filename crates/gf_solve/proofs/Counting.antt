@@ -1,6 +1,7 @@
 -- Counting lost columns.
 use Rattle.std.proofs.Common.{◌≡◌, ℕ, zero, suc, ◌+◌, ◌-◌, ◌<◌, ◌≤◌, Bool, true, false, refl, sym, ◌∙◌, ap, arith}
 use Rattle.std.specs.Prelude.{if◌then◌else◌}
+use Rattle.std.proofs.lemmas.Bool.{true≢false}
 use Rattle.gf_solve.specs.Row.{count_lost}
 
 -- A run of columns is counted in two parts.
@@ -31,6 +32,23 @@ count_alike lost other first second (suc some) alike =
 
     shift : (n k : ℕ) → n + 1 + k ≡ n + suc k
     shift n k = omega arith
+
+-- Where each that is lost is lost in another way too, the others are as many at least.
+pub count_mono : (lost other : ℕ → Bool) (first some : ℕ)
+    → ((k : ℕ) → first ≤ k → k < first + some → lost k ≡ true → other k ≡ true)
+    → count_lost lost first some ≤ count_lost other first some
+count_mono lost other first zero also = omega arith
+count_mono lost other first (suc some) also =
+    omega (
+      arith,
+      here (lost first) (other first) (also first (omega arith) (omega arith)),
+      count_mono lost other (first + 1) some (λ k from below. also k (omega (arith, from)) (omega (arith, below))),
+    )
+  where
+    here : (b c : Bool) → (b ≡ true → c ≡ true) → (if b then 1 else 0) ≤ (if c then 1 else 0)
+    here true true both = omega arith
+    here true false both = absurd (true≢false (sym (both refl)))
+    here false c both = omega arith
 
 -- A lost column counts one more than what lies behind it.
 pub count_here : (lost : ℕ → Bool) (first column to : ℕ) → first ≤ column → column < to → lost column ≡ true

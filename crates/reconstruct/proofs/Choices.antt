@@ -11,8 +11,8 @@ use Rattle.row_layout.specs.Layout.{Layout, IsLayout, rows_of, whole_rows, colum
 use Rattle.row_layout.proofs.Parts.{whole_row_in, last_row_in}
 use Rattle.reconstruct.specs.declared.pair.Pair.{Pair}
 use Rattle.reconstruct.specs.Rows.{Rows}
-use Rattle.reconstruct.specs.Suspects.{Choice, IsSuspectChoice, AscendFrom, IsLower, is_suspect}
-use Rattle.reconstruct.specs.Suspects.{suspects_sector, reach_of}
+use Rattle.reconstruct.specs.Suspects.{Choice, IsSuspectChoice, AscendFrom, IsLower, is_suspect, suspects_sector}
+use Rattle.reconstruct.specs.Suspects.{choice_reach}
 use Rattle.reconstruct.specs.Solved.{columns_with, is_masked_lost, is_lost, ServesRow, TellsBytes, Question}
 use Rattle.reconstruct.specs.Solved.{question_with, Told, IsDecoded, IsDamaged}
 use Rattle.reconstruct.specs.Tried.{IsPick, IsFirstTold, NoneTold}
@@ -255,7 +255,7 @@ module _ (layout : Layout) (rows : Rows) (masks : List ℕ) (len : ℕ) (sha : L
 
 -- how many of the question's suspects a choice of so many is taken from
 abbrev pub reach_in : Question → ℕ → ℕ
-reach_in question size = reach_of (length question.suspects) size
+reach_in question size = choice_reach (length question.suspects) size
 
 -- A choice of a size is a pick of so many.
 pick_of : (question : Question) (choice : Choice) (size : ℕ) → length choice ≡ size

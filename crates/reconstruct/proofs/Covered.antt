@@ -13,12 +13,12 @@ use Rattle.reconstruct.specs.Rows.{Rows, sectors_for}
 use Rattle.reconstruct.specs.Lost.{HasTooFew, IsLeftOver}
 use Rattle.reconstruct.specs.Suspects.{Choice, IsTriedBefore}
 use Rattle.reconstruct.specs.Solved.{Question, question_with, Told, ChoiceGives, IsSolution, IsDecoded, IsDamaged}
-use Rattle.reconstruct.specs.Solved.{HasNoFalseChoice, lost_by}
-use Rattle.reconstruct.specs.Covered.{IsAskedOf, Covers}
+use Rattle.reconstruct.specs.Solved.{HasNoFalseChoice, lost_by_choice}
+use Rattle.reconstruct.specs.Covered.{IsChoiceAsked, Covers}
 use Rattle.reconstruct.proofs.Choices.{parity_in_row}
 use Rattle.reconstruct.proofs.SameBytes.{zeros_behind, solution_alike}
 
-module _ (question : Question) (choice : Choice) (content : List ℕ) (asked : IsAskedOf question content)
+module _ (question : Question) (choice : Choice) (content : List ℕ) (asked : IsChoiceAsked question content)
     (covers : Covers question choice content) where
   -- what fills the block's last sector
   abbrev zeros : List ℕ
@@ -31,7 +31,7 @@ module _ (question : Question) (choice : Choice) (content : List ℕ) (asked : I
     whole = content ++ zeros;
     solves =
         solution_alike question.layout content (content ++ zeros)
-        (record { at = λ place. sym (zeros_behind content _ place) }) question.columns (lost_by question choice)
+        (record { at = λ place. sym (zeros_behind content _ place) }) question.columns (lost_by_choice question choice)
         question.len (512 * question.layout.sectors) long solution;
     are_bytes = λ at.
         rw (zeros_behind content (512 * question.layout.sectors - question.len) at) (asked.are_bytes at);
@@ -49,7 +49,7 @@ module _ (question : Question) (choice : Choice) (content : List ℕ) (asked : I
             asked.sectors,
           )
 
-      solution : IsSolution question.layout question.columns (lost_by question choice) question.len content
+      solution : IsSolution question.layout question.columns (lost_by_choice question choice) question.len content
       solution = record {
         wide = asked.len;
         content = λ row column within behind there. covers.right row column within there;
@@ -73,7 +73,7 @@ pub decoded_is : (question : Question) (content bytes : List ℕ) → HasNoFalse
 decoded_is question content bytes none decoded = none.none decoded.choice bytes decoded.given
 
 -- Law: Where the choice of no suspect covers a block, what is decoded is the block.
-pub first_choice : (question : Question) (content bytes : List ℕ) → IsAskedOf question content
+pub first_choice : (question : Question) (content bytes : List ℕ) → IsChoiceAsked question content
     → Covers question [] content → IsDecoded question bytes → bytes ≡ content
 first_choice question content bytes asked covers decoded = of_choice decoded.choice decoded.alone decoded.first
   where
@@ -105,10 +105,11 @@ left_covered layout rows masks len sha suspects content is left enough = record 
     or_nothing true = refl
     or_nothing false = refl
 
-    counted : (row some : ℕ) → count_lost (lost_by (question_with layout rows masks len sha suspects) [] row) 0 some
+    counted : (row some : ℕ)
+        → count_lost (lost_by_choice (question_with layout rows masks len sha suspects) [] row) 0 some
         ≡ count_lost (is_masked (slice_index masks row)) 0 some
     counted row some =
-        count_alike (lost_by (question_with layout rows masks len sha suspects) [] row)
+        count_alike (lost_by_choice (question_with layout rows masks len sha suspects) [] row)
         (is_masked (slice_index masks row)) 0 0 some
         (λ k low. or_nothing (is_masked (slice_index masks row) (0 + k)))
 

@@ -13,6 +13,7 @@ pub mod ContentSectors
 pub mod Solution
 pub mod Telling
 pub mod Choices
+pub mod TooFew
 pub mod SameBytes
 pub mod AllContent
 pub mod Covered

@@ -6,7 +6,7 @@ use Rattle.gf_parity.specs.Parity.{p_of, parity_column}
 use Rattle.width_map.specs.Births.{first_births, births_after}
 use Rattle.reconstruct.specs.Columns.{content_sector, column_bytes}
 use Rattle.reconstruct.specs.declared.pair.Pair.{Pair}
-use Rattle.reconstruct.specs.Suspects.{suspects_of, is_suspect, reach_of, IsTriedBefore}
+use Rattle.reconstruct.specs.Suspects.{suspects_of, is_suspect, choice_reach, IsTriedBefore}
 use Rattle.reconstruct.specs.Solved.{Columns, is_lost, IsPassedOver}
 use Rattle.gf_solve.specs.Row.{count_lost}
 
@@ -48,7 +48,7 @@ read_at_old_place : is_suspect 168 166 (record { width = 4; device = 1; mark = 1
 read_at_old_place = refl
 
 -- Of 200 suspects a choice takes one from all, two from the first 136, three from the first 31.
-reaches : (reach_of 200 1 ≡ 200) × (reach_of 200 2 ≡ 136) × (reach_of 200 3 ≡ 31)
+reaches : (choice_reach 200 1 ≡ 200) × (choice_reach 200 2 ≡ 136) × (choice_reach 200 3 ≡ 31)
 reaches = (refl, refl, refl)
 
 -- The empty choice comes first, a pair after each single one, and pairs by their first place.

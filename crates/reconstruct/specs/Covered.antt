@@ -6,10 +6,10 @@ use Rattle.reconstruct.specs.Columns.{column_bytes}
 use Rattle.reconstruct.specs.Rows.{sectors_for}
 use Rattle.reconstruct.specs.Lost.{AreBytes}
 use Rattle.reconstruct.specs.Suspects.{Choice, IsSuspectChoice}
-use Rattle.reconstruct.specs.Solved.{Question, IsPassedOver, lost_by}
+use Rattle.reconstruct.specs.Solved.{Question, IsPassedOver, lost_by_choice}
 
 -- The question is asked of the block of these bytes.
-pub record IsAskedOf (question : Question) (content : List ℕ) : Type 0 where
+pub record IsChoiceAsked (question : Question) (content : List ℕ) : Type 0 where
   pub layout : IsLayout question.layout
   pub sectors : sectors_for question.len ≡ question.layout.sectors
   pub len : length content ≡ question.len
@@ -19,6 +19,6 @@ pub record IsAskedOf (question : Question) (content : List ℕ) : Type 0 where
 -- The choice leaves enough columns of each row, and those are the block's.
 pub record Covers (question : Question) (choice : Choice) (content : List ℕ) : Type 0 where
   pub choice_is : IsSuspectChoice question.suspects question.layout.parity choice
-  pub enough : IsPassedOver question.layout (lost_by question choice) → ⊥
-  pub right : (row column : ℕ) → IsColumn question.layout row column → lost_by question choice row column ≡ false
+  pub enough : IsPassedOver question.layout (lost_by_choice question choice) → ⊥
+  pub right : (row column : ℕ) → IsColumn question.layout row column → lost_by_choice question choice row column ≡ false
       → question.columns.read row column ≡ column_bytes question.layout content row column

@@ -98,13 +98,13 @@ question_with layout rows masks len sha suspects = record {
 }
 
 -- what is lost for a choice
-abbrev pub lost_by : Question → Choice → ℕ → ℕ → Bool
-lost_by question choice = is_lost question.layout question.columns question.suspects choice
+abbrev pub lost_by_choice : Question → Choice → ℕ → ℕ → Bool
+lost_by_choice question choice = is_lost question.layout question.columns question.suspects choice
 
 -- The columns that a choice leaves tell these bytes.
 abbrev pub Told : Question → Choice → List ℕ → Type 0
 Told question choice bytes =
-    TellsBytes question.layout question.columns (lost_by question choice) question.len question.sha bytes
+    TellsBytes question.layout question.columns (lost_by_choice question choice) question.len question.sha bytes
 
 -- A choice gives these bytes, which have the digest.
 pub record ChoiceGives (question : Question) (choice : Choice) (bytes : List ℕ) : Type 0 where

@@ -1,10 +1,11 @@
 // Choices of suspects, tried one after the other.
 
-ghost use Rattle.std.specs.Prelude.{◌≡◌, ◌≤◌, length, IfOk, IfSome, IfNone, IsErrOf};
+ghost use Rattle.std.specs.Prelude.{◌≡◌, ◌≤◌, ℕ, List, length, IfOk, IfSome, IfNone, IsErrOf};
 ghost use Rattle.row_layout.specs.Layout.{rows_of};
 ghost use Rattle.reconstruct.specs.Rows.{IsShaped, sectors_for};
-ghost use Rattle.reconstruct.specs.Suspects.{AreInside, reach_of};
-ghost use Rattle.reconstruct.specs.Solved.{question_with, IsDecoded, IsDamaged};
+ghost use Rattle.reconstruct.specs.Suspects.{AreInside, choice_reach};
+ghost use Rattle.reconstruct.specs.Solved.{columns_with, is_masked_lost, question_with, IsDecoded, IsDamaged};
+ghost use Rattle.reconstruct.specs.Solved.{TellsBytes};
 ghost use Rattle.reconstruct.specs.Tried.{IsFirstTold, NoneTold};
 ghost use Rattle.reconstruct.specs.declared.refusal.CheckRefused.TheVariants.{Damaged};
 
@@ -34,7 +35,7 @@ struct Search<'a> {
 
 /// How many of so many suspects, the first ones, a choice of this size is taken from.
 fn reach(count: usize, size: u32) -> usize
-    ensures value { result ≡ reach_of count size }
+    ensures value { result ≡ choice_reach count size }
     ensures inside { result ≤ count }
 {
     match size {
@@ -106,7 +107,35 @@ pub fn decode_checked(
     ensures cause_damaged { IsErrOf result Damaged → IsDamaged
         (question_with layout.now rows.now lost.now len digest.now suspects.now) }
 {
-    for size in 0..layout.parity() + 1 {
+    if let Some(bytes) = decode_matching(alloc, layout, rows, len, lost, digest)? {
+        return Ok(bytes);
+    }
+    decode_suspecting(alloc, layout, rows, len, lost, digest, suspects)
+}
+
+/// What `decode_checked` gives where no bytes have the digest without a suspect: that is not tried
+/// again.
+pub fn decode_suspecting(
+    alloc: Global,
+    layout: &Layout,
+    rows: &Rows,
+    len: usize,
+    lost: &[u64],
+    digest: &[u8; 32],
+    suspects: &[Pair],
+) -> Result<Vec<u8>, CheckRefused>
+    requires len { sectors_for len ≡ layout.now.sectors }
+    requires shape { IsShaped layout.now rows.now }
+    requires masks { length lost.now ≡ rows_of layout.now }
+    requires pairs { AreInside suspects.now }
+    requires untold { (bytes : List ℕ) → TellsBytes layout.now (columns_with rows.now lost.now)
+        (is_masked_lost lost.now) len digest.now bytes → ⊥ }
+    ensures ok { IfOk result (λ bytes. IsDecoded
+        (question_with layout.now rows.now lost.now len digest.now suspects.now) bytes.items) }
+    ensures cause_damaged { IsErrOf result Damaged → IsDamaged
+        (question_with layout.now rows.now lost.now len digest.now suspects.now) }
+{
+    for size in 1..layout.parity() + 1 {
         let search = Search {
             layout,
             rows,

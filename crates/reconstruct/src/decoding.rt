@@ -59,7 +59,8 @@ pub fn decode(
     Ok(content(alloc, layout, &solved, len)?)
 }
 
-fn first_too_few(layout: &Layout, lost: &[u64]) -> Option<u32>
+/// The first row that has lost more columns than it has parity. `lost` has a mask of columns for each row.
+pub fn first_too_few(layout: &Layout, lost: &[u64]) -> Option<u32>
     requires { length lost.now ≡ rows_of layout.now }
     ensures some { IfSome result (IsFirstTooFew layout.now lost.now) }
     ensures none { IfNone result ((row : ℕ) → row < rows_of layout.now

@@ -20,8 +20,8 @@ mod sectors;
 mod suspecting;
 
 pub use checking::decode_matching;
-pub use choosing::decode_checked;
-pub use decoding::decode;
+pub use choosing::{decode_checked, decode_suspecting};
+pub use decoding::{decode, first_too_few};
 pub use encoding::encode;
 pub use pair::Pair;
 pub use reading::content;

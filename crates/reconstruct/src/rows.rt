@@ -92,7 +92,8 @@ impl Rows {
         requires column { column < self.old.cols }
         ensures* lends { sem 𝓛 (LendsColumn self.entry row column result) }
         ensures value { result.now ≡ column_at self.old row column }
-        ensures written { (bytes : List ℕ) → IsColumnWritten row column bytes self.old (with_column self.old row column bytes) }
+        ensures written { (bytes : List ℕ) → IsColumnWritten row column bytes self.old
+            (with_column self.old row column bytes) }
     {
         &mut self.columns[row as usize * self.cols + column as usize]
     }
