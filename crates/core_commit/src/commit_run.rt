@@ -14,13 +14,13 @@ ghost use Rattle.core_commit.specs.Ran.{FitsBank, IsLaying, IsSigning, index_par
 ghost use Rattle.core_state.specs.Committing.{point_of};
 ghost use Rattle.core_commit.specs.Spared.{HaveGoneOut, SparesData};
 
-use crate::committing::{is_signing, make, page_sector};
+use crate::committing::{is_signing, make, write_part};
 use bank_trait::{Bank, Failed};
 use block_record::{IndexEntry, page_sectors};
 use commit_job::{Commit, CommitCall};
 use reflow_mark::Reflow;
 use std::marker::Model;
-use uberblock_ring::{DeviceSet, Uber, area_sector};
+use uberblock_ring::{DeviceSet, Uber};
 
 /// The half of a commit that comes next: the index page and its syncs, or the uberblock and its own.
 #[derive(Clone, Copy, Debug, PartialEq, Eq)]
@@ -104,9 +104,10 @@ impl CommitRun {
         }
     }
 
-    /// The uberblock of the group.
+    /// The uberblock of the group, which counts its index.
     pub fn uber(&self) -> &Uber
         ensures value { result.now ≡ self.now.uber }
+        ensures counted { length self.now.entries ≡ self.now.uber.count }
     {
         &self.uber
     }
@@ -148,8 +149,14 @@ impl CommitRun {
         ensures value { Wrote (B.disk bank.old) (B.disk bank.new) device
             (area_sector self.now.uber.area + part) (index_part self.now.entries part) result }
     {
-        let sector = page_sector(&self.entries, Some(&self.page), part);
-        bank.write(device, area_sector(self.uber.area()) + part, &sector)
+        write_part(
+            bank,
+            &self.uber,
+            &self.entries,
+            Some(&self.page),
+            device,
+            part,
+        )
     }
 
     /// The second half of the same group with one device more, to which nothing is moved yet. A device joins only

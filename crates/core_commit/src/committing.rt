@@ -1,8 +1,10 @@
 // The device calls of a commit, and of bringing a group to devices that lack it.
 ghost use Rattle.std.specs.Prelude.{◌≡◌, ◌↔◌, ◌+◌, ◌*◌, ◌^◌, ◌<◌, ◌≤◌, [], All, Some, None, false, length, take, drop};
 ghost use Rattle.std.specs.Prelude.{slice_get, IfSome, IsTrue, OnOk, OnErr};
+ghost use Rattle.bank_trait.specs.Disk.{Wrote};
 ghost use Rattle.block_record.specs.Page.{index_page, page_sectors, IsIndex};
 ghost use Rattle.uberblock_ring.specs.Devices.{has_device, count_of};
+ghost use Rattle.uberblock_ring.specs.Uberblock.{area_sector};
 ghost use Rattle.uberblock_ring.specs.Valid.{IsRightUber};
 ghost use Rattle.commit_job.specs.declared.call.CommitCall.{CommitCall as CallOf};
 ghost use Rattle.commit_job.specs.Stages.{device_of, calls_left};
@@ -17,28 +19,41 @@ use block_record::{IndexEntry, index_sector};
 use commit_job::{Commit, CommitCall};
 use uberblock_ring::{DeviceSet, Uber, area_sector, slot};
 
-/// A sector of the index page, from the page where that stands encoded.
-pub(crate) fn page_sector(entries: &[IndexEntry], page: Option<&[u8]>, part: u64) -> [u8; 512]
+/// Writes a sector of the index page to a device: from `page`, where it stands encoded, and else from the entries.
+pub(crate) fn write_part<B: Bank>(
+    bank: &mut B,
+    uber: &Uber,
+    entries: &[IndexEntry],
+    page: Option<&[u8]>,
+    device: u32,
+    part: u64,
+) -> Result<(), Failed>
+    requires right { IsRightUber uber.now }
     requires index { IsIndex entries.now }
-    requires few { length entries.now ≤ 512 }
-    requires part { part < page_sectors (length entries.now) }
+    requires counted { length entries.now ≡ uber.now.count }
     requires page { IfSome page (λ bytes. bytes.now ≡ index_page entries.now) }
-    ensures value { result ≡ index_part entries.now part }
+    requires sectors { 192 ≤ (B.disk bank.old).sectors }
+    requires device { device < (B.disk bank.old).devices }
+    requires part { part < page_sectors uber.now.count }
+    ensures { Wrote (B.disk bank.old) (B.disk bank.new) device (area_sector uber.now.area + part)
+        (index_part entries.now part) result }
 {
+    let device_sector = area_sector(uber.area()) + part;
     match page {
-        Some(bytes) => cut_sector(bytes, part),
-        None => index_sector(entries, part),
+        Some(bytes) => bank.write(device, device_sector, sector_of(bytes, part)),
+        None => bank.write(device, device_sector, &index_sector(entries, part)),
     }
 }
 
-/// One sector of whole ones, counted from 0.
-fn cut_sector(bytes: &[u8], part: u64) -> [u8; 512]
+/// One sector of whole ones, counted from 0, where it stands among them.
+fn sector_of(bytes: &[u8], part: u64) -> &[u8; 512]
     requires inside { 512 * part + 512 ≤ length bytes.now }
-    ensures value { result ≡ take 512 (drop (512 * part) bytes.now) }
+    ensures value { result.now ≡ take 512 (drop (512 * part) bytes.now) }
 {
     let start = 512 * part as usize;
-    let mut sector = [0; 512];
-    sector.copy_from_slice(&bytes[start..start + 512]);
+    let Some(sector) = bytes[start..start + 512].as_array::<512>() else {
+        unreachable!();
+    };
     sector
 }
 
@@ -61,11 +76,7 @@ fn call_bank<B: Bank>(
 {
     match call {
         CommitCall::IndexWrite { device, part } => {
-            bank.write(
-                device,
-                area_sector(uber.area()) + part,
-                &page_sector(entries, page, part),
-            )
+            write_part(bank, uber, entries, page, device, part)
         }
         CommitCall::UberWrite { device } => {
             bank.write(device, u64::from(slot(uber.group())), &uber.encode(device))

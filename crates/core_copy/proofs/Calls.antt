@@ -1,13 +1,13 @@
 -- What one device call gave, and which devices are out behind it.
-use Rattle.std.proofs.Common.{◌≡◌, ℕ, List, Some, None, Result, Ok, Err, true, false}
-use Rattle.std.specs.Prelude.{is_err, OnOk, OnErr}
+use Rattle.std.proofs.Common.{◌≡◌, ℕ, List, Some, None, Result, Ok, Err, Bool, true, false, refl}
+use Rattle.std.specs.Prelude.{is_err, IsSome, IsTrue, OnOk, OnErr}
 use Rattle.std.proofs.lemmas.Bool.{true≢false, false≢true}
 use Rattle.bank_trait.specs.declared.Failed.{Failed}
 use Rattle.bank_trait.specs.Causes.{FaultCounted, FailedOnce}
 use Rattle.bank_trait.specs.Disk.{Unchanged}
 use Rattle.core_state.specs.Committing.{Called, Point}
 use Rattle.core_state.specs.declared.spot.Spot.{Spot}
-use Rattle.core_state.specs.SpotReads.{IsRead}
+use Rattle.core_state.specs.SpotReads.{given_by, IsRead}
 
 -- A read that failed gave nothing,
 pub read_failed : (spot : Spot) (result : Result (Unit {0}) Failed) (before after : Point) → true ≡ is_err result
@@ -43,3 +43,8 @@ read_came_off spot bytes (Ok value) before after is gave well unchanged called =
   unchanged = unchanged;
   called = called;
 }
+
+-- What it gave was read.
+pub read_where_given : (has_read : Bool) (bytes : List ℕ) → IsSome (given_by has_read bytes) → IsTrue has_read
+read_where_given true bytes given = refl
+read_where_given false bytes given = absurd (false≢true given)

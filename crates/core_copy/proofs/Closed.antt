@@ -1,6 +1,5 @@
 -- Lists of what may be wrong that are closed under copying.
-use Rattle.std.proofs.Common.{Contains, ◌≡◌, ◌⊎◌, ⊎_elim, ℕ, zero, suc, ◌+◌, ◌≤◌, [], ◌∷◌, ◌++◌, sym}
-use Rattle.std.proofs.Common.{ap, subst, arith}
+use Rattle.std.proofs.Common.{Contains, ◌≡◌, ⊎_elim, ℕ, zero, suc, ◌+◌, ◌≤◌, [], ◌∷◌, ◌++◌, sym, ap, subst, arith}
 use Rattle.std.proofs.lemmas.Bool.{cases_eq}
 use Rattle.std.proofs.lemmas.List.Elements.{Contains-append_cases, Contains-append_left, Contains-append_right}
 use Rattle.width_map.specs.Place.{first_data_sector, place_of}
@@ -38,37 +37,33 @@ spread [] = []
 spread (what ∷ listed) = what ∷ spots_to 16 what.0 ++ spread listed
 
 -- All places of a sector are among these, and only of this sector.
-data_in : (width sector below : ℕ) → 1 ≤ below → below ≤ width
+places_in : (width sector below : ℕ) → 1 ≤ below → below ≤ width
     → Contains (spots_to width sector) (at_spot sector (data_spot below sector))
+    × Contains (spots_to width sector) (at_spot sector (scratch_spot below sector))
 unfolding spots_to
-data_in zero sector below some within = absurd (omega (arith, some, within))
-data_in (suc width) sector below some within =
-    let own = at_spot sector (data_spot (suc width) sector) in
-    let scratch = at_spot sector (scratch_spot (suc width) sector) in
-    let narrower = spots_to width sector in
-    ⊎_elim
+places_in zero sector below some within = absurd (omega (arith, some, within))
+places_in (suc width) sector below some within = ⊎_elim
     (λ (same : below ≡ suc width).
-    subst (λ (w : ℕ). Contains (spots_to (suc width) sector) (at_spot sector (data_spot w sector))) (sym same)
-    (contains_head own (scratch ∷ narrower)))
-    (λ apart. let low = data_in width sector below some (omega (arith, within, apart)) in
-    contains_tail own (scratch ∷ narrower) _ (contains_tail scratch narrower _ low))
+    subst (λ (w : ℕ). Contains (spots_to (suc width) sector) (at_spot sector (data_spot w sector))
+    × Contains (spots_to (suc width) sector) (at_spot sector (scratch_spot w sector))) (sym same) (
+      contains_head own (scratch ∷ narrower),
+      contains_tail own (scratch ∷ narrower) scratch (contains_head scratch narrower),
+    ))
+    (λ apart. let low = places_in width sector below some (omega (arith, within, apart)) in
+    (behind _ low.0, behind _ low.1))
     (cases_eq below (suc width))
+  where
+    own : ℕ × (ℕ × ℕ)
+    own = at_spot sector (data_spot (suc width) sector)
 
-scratch_in : (width sector below : ℕ) → 1 ≤ below → below ≤ width
-    → Contains (spots_to width sector) (at_spot sector (scratch_spot below sector))
-unfolding spots_to
-scratch_in zero sector below some within = absurd (omega (arith, some, within))
-scratch_in (suc width) sector below some within =
-    let own = at_spot sector (data_spot (suc width) sector) in
-    let scratch = at_spot sector (scratch_spot (suc width) sector) in
-    let narrower = spots_to width sector in
-    ⊎_elim
-    (λ (same : below ≡ suc width).
-    subst (λ (w : ℕ). Contains (spots_to (suc width) sector) (at_spot sector (scratch_spot w sector))) (sym same)
-    (contains_tail own (scratch ∷ narrower) scratch (contains_head scratch narrower)))
-    (λ apart. let low = scratch_in width sector below some (omega (arith, within, apart)) in
-    contains_tail own (scratch ∷ narrower) _ (contains_tail scratch narrower _ low))
-    (cases_eq below (suc width))
+    scratch : ℕ × (ℕ × ℕ)
+    scratch = at_spot sector (scratch_spot (suc width) sector)
+
+    narrower : Excepted
+    narrower = spots_to width sector
+
+    behind : (what : ℕ × (ℕ × ℕ)) → Contains narrower what → Contains (own ∷ scratch ∷ narrower) what
+    behind what there = contains_tail own (scratch ∷ narrower) what (contains_tail scratch narrower what there)
 
 only_its : (width sector : ℕ) (what : ℕ × (ℕ × ℕ)) → Contains (spots_to width sector) what → what.0 ≡ sector
 unfolding spots_to
@@ -111,7 +106,7 @@ everywhere (first ∷ listed) what width some within has = ⊎_elim
         × Contains (spread (first ∷ listed)) (at_spot what.0 (scratch_spot width what.0))
     its same = subst (λ (s : ℕ). Contains (spread (first ∷ listed)) (at_spot s (data_spot width s))
         × Contains (spread (first ∷ listed)) (at_spot s (scratch_spot width s))) (sym same)
-        (own _ (data_in 16 first.0 width some within), own _ (scratch_in 16 first.0 width some within))
+        (let found = places_in 16 first.0 width some within in (own _ found.0, own _ found.1))
 
 -- Law: Any list of what may be wrong is part of one that is closed under copying.
 pub spread_has : (listed : Excepted) → IsAmong listed (spread listed)

@@ -11,8 +11,8 @@ use Rattle.core_copy.specs.Progress.{CopiesSector}
 abbrev pub IsExceptedAt : Excepted → ℕ → Spot → Type 0
 IsExceptedAt excepted sector spot = Contains excepted (sector, (spot.1.device, spot.0 + spot.1.row))
 
--- What may be wrong where a job reads it may be wrong where the job writes it: so a copy makes nothing wrong that is not
--- listed.
+-- What may be wrong where a job reads it may be wrong where the job writes it: so a copy makes nothing wrong
+-- that is not listed.
 pub record IsClosed (excepted : Excepted) : Type 0 where
   pub copied : (reflow : Reflow) (job : Job) (sector : ℕ) → IsWidening reflow → CopiesSector reflow job sector
       → IsExceptedAt excepted sector (source_of reflow job sector)

@@ -1,5 +1,5 @@
 // Which job comes next, and which of its calls.
-ghost use Rattle.std.specs.Prelude.{◌≡◌, ◌+◌, ◌/◌, ◌<◌, ◌≤◌, ◌^◌, IfNone, IfSome};
+ghost use Rattle.std.specs.Prelude.{◌≡◌, ◌+◌, ◌/◌, ◌<◌, ◌≤◌, ◌^◌, IfNone, IfSome, nat_lt};
 ghost use Rattle.reflow_copier.specs.declared.job.CallKind.TheVariants as kind;
 ghost use Rattle.reflow_copier.specs.Jobs.{job_begin, job_end, next_job_of};
 ghost use Rattle.core_state.specs.JobTurns.{MayRun};
@@ -36,6 +36,13 @@ pub fn sector_of_call(job: &Job, number: u64) -> u64
     job.begin() + number / 2
 }
 
+/// Whether the job has a call left behind so many that were made.
+pub(crate) fn has_call_left(job: &Job, reflow: &Reflow, made: u64) -> bool
+    ensures { result ≡ nat_lt made (call_count reflow.now job.now) }
+{
+    made / 2 < job.end(reflow).saturating_sub(job.begin())
+}
+
 /// The job's call behind so many that were made; none where it has come to its end.
 #[tactic(auto, using(crate::proofs::Due::call_inside, crate::proofs::Due::call_places, crate::proofs::Due::calls_end))]
 pub fn next_call(job: &Job, reflow: &Reflow, made: u64) -> Option<JobCall>
@@ -56,7 +63,7 @@ pub fn next_call(job: &Job, reflow: &Reflow, made: u64) -> Option<JobCall>
     ensures end { IfNone result (job_begin job.now ≤ job_end reflow.now job.now
         → made ≤ call_count reflow.now job.now → job_begin job.now + made / 2 ≡ job_end reflow.now job.now) }
 {
-    if made / 2 < job.end(reflow).saturating_sub(job.begin()) {
+    if has_call_left(job, reflow, made) {
         Some(job.next(reflow, made))
     } else {
         None

@@ -7,6 +7,7 @@ ghost use Rattle.core_copy.specs.Progress.{call_behind, call_count};
 ghost use Rattle.core_copy.specs.JobRun.{HoldsRead, JobMayBegin, JobSteps, begun_run};
 
 use crate::calling::make;
+use crate::job_plan::has_call_left;
 use crate::next_call;
 use bank_trait::Bank;
 use reflow_copier::{Job, JobCall};
@@ -27,10 +28,14 @@ struct CopiedSoFar {
     reflow: Reflow,
     job: Job,
     made: u64,
-    read: Option<[u8; 512]>,
+    /// Whether `bytes` is what was read of it; else they mean nothing.
+    has_read: bool,
+    /// They are read and written where they stand.
+    bytes: [u8; 512],
 }
 
 impl Model for JobRun {
+    ghost use Rattle.core_state.specs.SpotReads.{given_by};
     ghost use Rattle.core_copy.specs.JobRun.{IsJobRun, JobRun as JobRunOf};
 
     ghost Value = { JobRunOf };
@@ -39,14 +44,14 @@ impl Model for JobRun {
       reflow = run.run.value.reflow;
       job = run.run.value.job;
       made = run.run.value.made;
-      read = run.run.value.read;
+      read = given_by run.run.value.has_read run.run.value.bytes;
     } };
 
     ghost invariant = { λ run. IsJobRun (record {
       reflow = run.run.value.reflow;
       job = run.run.value.job;
       made = run.run.value.made;
-      read = run.run.value.read;
+      read = given_by run.run.value.has_read run.run.value.bytes;
     }) };
 }
 
@@ -60,7 +65,8 @@ impl JobRun {
             reflow: *reflow,
             job,
             made: 0,
-            read: None,
+            has_read: false,
+            bytes: [0; 512],
         };
         Ok(JobRun {
             run: Box::new(alloc, begun)?,
@@ -70,7 +76,6 @@ impl JobRun {
     /// The next call; none where all were made.
     fn next(&self) -> Option<JobCall>
         ensures value { result ≡ call_behind self.now.reflow self.now.job self.now.made }
-        ensures within { self.now.made ≤ call_count self.now.reflow self.now.job }
     {
         next_call(&self.run.job, &self.run.reflow, self.run.made)
     }
@@ -80,7 +85,7 @@ impl JobRun {
         ensures value { IsTrue result ↔ (self.now.made ≡ call_count self.now.reflow self.now.job) }
         ensures left { result ≡ false → self.now.made < call_count self.now.reflow self.now.job }
     {
-        self.next().is_none()
+        !has_call_left(&self.run.job, &self.run.reflow, self.run.made)
     }
 
     /// The job that the run makes the calls of.
@@ -110,7 +115,7 @@ impl JobRun {
             return;
         };
         let run = &mut *self.run;
-        run.read = make(bank, call, run.read, out);
+        run.has_read = make(bank, call, run.has_read, &mut run.bytes, out);
         run.made += 1;
     }
 }

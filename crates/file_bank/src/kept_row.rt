@@ -1,13 +1,13 @@
 // Sectors side by side that were written and are not handed over yet.
-ghost use Rattle.std.specs.Prelude.{◌≡◌, ◌+◌, ◌-◌, ◌*◌, ◌/◌, ◌%◌, ◌⊎◌, ◌^◌, ◌<◌, ◌≤◌, ℕ, List, [], ◌∷◌, ◌++◌};
-ghost use Rattle.std.specs.Prelude.{length, drop};
-ghost use Rattle.std.specs.Prelude.{false, IsTrue, IfOk, take, get_or};
+ghost use Rattle.std.specs.Prelude.{◌≡◌, ◌+◌, ◌-◌, ◌*◌, ◌/◌, ◌%◌, ◌⊎◌, ◌^◌, ◌<◌, ◌≤◌, ℕ, List, [], ◌∷◌, ◌++◌, length};
+ghost use Rattle.std.specs.Prelude.{drop, false, IsTrue, IfOk, take, get_or};
 ghost use Rattle.std.specs.Vec.{vec_capacity};
 ghost use Rattle.file_bank.specs.Row.{AllWhole, GivesPiece, kept_row, kept_sector};
 ghost use Rattle.file_bank.specs.RowProps.{whole_prop};
 
 use crate::row_file::MOST_IN_ROW;
 use std::alloc::{AllocError, Global};
+use std::slice::from_ref;
 
 /// At most 64 sectors, for which there is room from the start on.
 #[derive(Drop)]
@@ -33,6 +33,17 @@ fn drop_first<T: Drop>(list: &mut Vec<T>, count: usize)
     ensures capacity { vec_capacity list.new ≡ vec_capacity list.old }
 {
     list.drain(..count);
+}
+
+/// Puts a sector behind the others, for which there is room: copied once, from where it stands to its place.
+fn push_copied(sectors: &mut Vec<[u8; 512]>, bytes: &[u8; 512])
+    requires { length sectors.old.items < vec_capacity sectors.old }
+    ensures items { sectors.new.items ≡ sectors.old.items ++ bytes.now ∷ [] }
+    ensures capacity { vec_capacity sectors.old ≤ vec_capacity sectors.new }
+{
+    let Ok(()) = sectors.extend_from_slice(from_ref(bytes)) else {
+        unreachable!();
+    };
 }
 
 impl KeptRow {
@@ -90,7 +101,7 @@ impl KeptRow {
         ensures row { sectors_kept self.new ≡ sectors_kept self.old ++ kept_sector moment bytes.now ∷ [] }
     {
         self.moments.push_reserved(moment);
-        self.sectors.push_reserved(*bytes);
+        push_copied(&mut self.sectors, bytes);
     }
 
     /// Leaves those behind the first ones.

@@ -66,34 +66,41 @@ impl Job {
         ensures value { result ≡ job_call_of reflow.now self.now at }
     {
         let sector = self.begin() + at / 2;
-        let (source, target) = self.spots(reflow, sector);
         if at % 2 == 0 {
-            call_at(CallKind::Read, source)
+            call_at(CallKind::Read, self.source(reflow, sector))
         } else {
-            call_at(CallKind::Write, target)
+            call_at(CallKind::Write, self.target(reflow, sector))
         }
     }
 
-    /// Where a sector is read, and where it is written.
-    fn spots(&self, reflow: &Reflow, sector: u64) -> (Spot, Spot)
+    /// Where a sector is read.
+    fn source(&self, reflow: &Reflow, sector: u64) -> Spot
         requires from_some { 0 < reflow.now.from }
         requires from_wide { reflow.now.from ≤ 64 }
         requires to_some { 0 < reflow.now.to }
         requires to_wide { reflow.now.to ≤ 64 }
-        ensures source { result.0 ≡ source_of reflow.now self.now sector }
-        ensures target { result.1 ≡ target_of reflow.now self.now sector }
+        ensures value { result ≡ source_of reflow.now self.now sector }
     {
-        let (read, written) = match self {
-            Job::Fill => (FIRST_DATA_SECTOR, FIRST_SCRATCH_SECTOR),
-            Job::Drain => (FIRST_SCRATCH_SECTOR, FIRST_DATA_SECTOR),
-            Job::Chunk { .. } => (FIRST_DATA_SECTOR, FIRST_DATA_SECTOR),
-        };
-        let (source, target) = match self {
-            Job::Fill => fill_move(reflow, sector),
-            Job::Drain => drain_move(reflow, sector),
-            Job::Chunk { .. } => (old_place(reflow, sector), new_place(reflow, sector)),
-        };
-        ((read, source), (written, target))
+        match self {
+            Job::Fill => (FIRST_DATA_SECTOR, fill_move(reflow, sector).0),
+            Job::Drain => (FIRST_SCRATCH_SECTOR, drain_move(reflow, sector).0),
+            Job::Chunk { .. } => (FIRST_DATA_SECTOR, old_place(reflow, sector)),
+        }
+    }
+
+    /// Where it is written.
+    fn target(&self, reflow: &Reflow, sector: u64) -> Spot
+        requires from_some { 0 < reflow.now.from }
+        requires from_wide { reflow.now.from ≤ 64 }
+        requires to_some { 0 < reflow.now.to }
+        requires to_wide { reflow.now.to ≤ 64 }
+        ensures value { result ≡ target_of reflow.now self.now sector }
+    {
+        match self {
+            Job::Fill => (FIRST_SCRATCH_SECTOR, fill_move(reflow, sector).1),
+            Job::Drain => (FIRST_DATA_SECTOR, drain_move(reflow, sector).1),
+            Job::Chunk { .. } => (FIRST_DATA_SECTOR, new_place(reflow, sector)),
+        }
     }
 }
 
