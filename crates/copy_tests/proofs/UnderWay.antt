@@ -49,6 +49,7 @@ job_at_begin old new actor id asked turn job begins of =
         begun = (let begun : new.begun ≡ old.begun = ap (λ (c : Core). c.begun) rest in omega (arith, begun));
       };
       copying = ap (λ (c : Core). c.copying) rest;
+      scrubbing = ap (λ (c : Core). c.scrubbing) rest;
       within = λ device has. subst (λ (c : Core). has_device c.pool.out device ≡ true) (sym rest) has;
     }) (begins_holds old new actor id asked turn job.hold begins of.holds) of
 
@@ -60,5 +61,6 @@ job_at_read before after run next job reads outs of =
     job_of_stays before.core after.core job (record {
       widths = widths_out before.core after.core reads.2;
       copying = ap (λ (c : Core). c.copying) reads.2;
+      scrubbing = ap (λ (c : Core). c.scrubbing) reads.2;
       within = outs.still;
     }) (subst (λ (c : Core). Contains c.holds job.hold) (sym reads.2) of.holds) of

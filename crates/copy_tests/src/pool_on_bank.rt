@@ -190,11 +190,11 @@ impl PoolOnBank {
     {
         let mut run = run;
         for _ in 0..MOST_TURNS {
-            run = match self.core.commit_step(&mut self.bank, run) {
-                Turn::More(next) => next,
-                Turn::Done(Answer::Synced { group: _ }) => return Ok(()),
-                _ => return Err("a commit is not answered".into()),
-            };
+            match self.core.commit_step(&mut self.bank, &mut run) {
+                None => (),
+                Some(Answer::Synced { group: _ }) => return Ok(()),
+                Some(_) => return Err("a commit is not answered".into()),
+            }
         }
         Err("a commit has no end".into())
     }

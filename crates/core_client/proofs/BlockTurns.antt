@@ -26,10 +26,10 @@ use Rattle.core_client.specs.Reading.{spot_of}
 use Rattle.core_client.specs.Got.{got_of, has_lost, HasLostFew, IsShapedAs}
 use Rattle.core_client.specs.BlockTurns.{BlockWrite, IsWrittenSoFar, BlockRead, IsAtColumn, IsPassedColumn, IsReadBegun}
 use Rattle.core_client.specs.BlockTurns.{GoesOneOn, ReadsColumn, IsColumnOf, IsReadSoFar}
-use Rattle.core_client.specs.Writing.{bytes_of, IsMade, IsPassedOrMade, IsPlanOf}
+use Rattle.core_client.specs.Writing.{ChecksPlace, bytes_of, IsMade, IsPassedOrMade, IsPlanOf, spot_written}
 use Rattle.core_state.proofs.Outs.{was_used, went_well, outs_called}
 use Rattle.core_client.proofs.Written.{IsNumber, plan_agrees}
-use Rattle.core_state.proofs.SpotReads.{got_by_step, outs_by_step}
+use Rattle.core_state.proofs.SpotReads.{got_by_step, outs_by_step, unchanged_by_step}
 use Rattle.core_client.proofs.Gotten.{has_bytes, parity_in_row}
 use Rattle.core_client.proofs.LeftOver.{missing_bytes, told_there}
 use Rattle.core_client.proofs.Enough.{lost_few_out}
@@ -146,6 +146,46 @@ module _ (layout : Layout) (bytes : List ℕ) (reflow : Reflow) (done : ℕ) (ru
       (sym passed.1) (passed_over passed.0))
       (λ (one : IsMade run.rows write before after). made one (told one.called.in_use))
       step
+
+  -- A place that was looked at and not told of reads what it should, or its device is out.
+  pub checked_more : ChecksPlace run.rows write false before after
+      → (has_device before.out write.device ≡ false → IsSome (before.disk.reads write.device write.device_sector))
+      → IsWrittenSoFar layout bytes reflow done after.disk.reads after.out (record run { next = run.next + 1 })
+  checked_more checks told = record {
+    plan = so_far.plan;
+    held = λ number other low is_other used. ⊎_elim
+        (λ (earlier : number < run.next). same other.device other.device_sector
+        ∙ so_far.held number other earlier is_other (was_used before.out after.out other.device still used))
+        (λ (now : run.next ≤ number).
+        let last : number ≡ run.next = omega (arith, now, low) in
+        let one : other ≡ write = same_at run.writes run.next write other is
+        (subst (λ (n : ℕ). slice_get run.writes n ≡ Some other) last is_other) in
+        subst (λ (w : Write). after.disk.reads w.device w.device_sector ≡ Some (bytes_of run.rows w)) (sym one)
+        (here checks.given refl (got_by_step (spot_written write) checks.given before after checks.read)
+        (ap (λ (w : Write). has_device after.out w.device) (sym one) ∙ used)))
+        (cases_lt number run.next);
+  }
+    where
+      still : IsWithin before.out after.out
+      still = (outs_by_step (spot_written write) checks.given before after checks.read).still
+
+      same : (device device_sector : ℕ)
+          → after.disk.reads device device_sector ≡ before.disk.reads device device_sector
+      same = (unchanged_by_step (spot_written write) checks.given before after checks.read).reads
+
+      told_at : (read : Option (List ℕ)) → IsSome read → (bytes : List ℕ) × (read ≡ Some bytes)
+      told_at (Some bytes) is_some = (bytes, refl)
+      told_at None is_some = absurd (true≢false (sym is_some))
+
+      here : (given : Option (List ℕ)) → checks.given ≡ given
+          → IsGot before.disk.reads before.out after.out (spot_written write) given
+          → has_device after.out write.device ≡ false
+          → after.disk.reads write.device write.device_sector ≡ Some (bytes_of run.rows write)
+      here None is_given out used = absurd (true≢false (sym out ∙ used))
+      here (Some bytes) is_given (in_use, gave) used =
+          let there = told_at (before.disk.reads write.device write.device_sector) (told in_use) in
+          same write.device write.device_sector ∙ there.1
+          ∙ ap Some (sym (gave there.0 there.1) ∙ checks.same refl bytes is_given)
 
 -- Once all writes were made or passed over, the block is right, whatever may be wrong.
 pub written_all : (layout : Layout) (bytes : List ℕ) (reflow : Reflow) (done : ℕ) (known : Known) (out : ℕ) (run : BlockWrite)

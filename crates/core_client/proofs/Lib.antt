@@ -10,3 +10,4 @@ pub mod Cells
 pub mod BlockTurns
 pub mod Decoded
 pub mod Suspected
+pub mod Spoiled

@@ -1,5 +1,5 @@
 -- What the writes of a block do.
-use Rattle.std.specs.Prelude.{◌≡◌, ◌⊎◌, ℕ, ◌<◌, List, true, false, Result, IsSome, Contains}
+use Rattle.std.specs.Prelude.{◌≡◌, ◌≢◌, ◌⊎◌, ℕ, ◌<◌, Bool, List, Option, Some, true, false, Result, IsSome, Contains}
 use Rattle.bank_trait.specs.declared.Failed.{Failed}
 use Rattle.bank_trait.specs.Disk.{Disk, Wrote}
 use Rattle.reflow_mark.specs.declared.reflow.Reflow.{Reflow}
@@ -9,6 +9,8 @@ use Rattle.shadow_write.specs.Writes.{AreRequired}
 use Rattle.reconstruct.specs.Rows.{Rows, column_at, IsEncoded}
 use Rattle.uberblock_ring.specs.Devices.{has_device}
 use Rattle.core_state.specs.Committing.{Point, Called}
+use Rattle.core_state.specs.SpotReads.{IsPassedOrRead}
+use Rattle.core_state.specs.declared.spot.Spot.{Spot}
 use Rattle.core_client.specs.Pool.{IsInPool}
 use Rattle.shadow_write.specs.Band.{IsFrontOf}
 
@@ -36,6 +38,18 @@ abbrev pub IsPassedOrMade : Rows → Write → Point → Point → Type 0
 IsPassedOrMade rows write before after =
     ((has_device before.out write.device ≡ true) × (after ≡ before))
     ⊎ IsMade rows write before after
+
+-- the place of a write
+abbrev pub spot_written : Write → Spot
+spot_written write = record { device = write.device; device_sector = write.device_sector }
+
+-- The place of a write was read, unless its device is out, and it was told whether it reads otherwise than the column
+-- that the write takes there.
+pub record ChecksPlace (rows : Rows) (write : Write) (otherwise : Bool) (before after : Point) : Type 0 where
+  pub given : Option (List ℕ)
+  pub read : IsPassedOrRead (spot_written write) given before after
+  pub differs : otherwise ≡ true → (bytes : List ℕ) × (given ≡ Some bytes) × (bytes ≢ bytes_of rows write)
+  pub same : otherwise ≡ false → (bytes : List ℕ) → given ≡ Some bytes → bytes ≡ bytes_of rows write
 
 -- the places that some writes go to, on devices that aren't out
 abbrev pub IsPlaceOf : List Write → ℕ → ℕ → ℕ → Type 0

@@ -1,13 +1,14 @@
 // A block that is written, one write at a time.
-ghost use Rattle.std.specs.Prelude.{◌≡◌, ◌+◌, ◌<◌, ◌↔◌, All, IfOk, IsTrue, Some, length, slice_get};
+ghost use Rattle.std.specs.Prelude.{◌≡◌, ◌+◌, ◌<◌, ◌↔◌, All, IfOk, IsTrue, Some, false, length, slice_get, true};
 ghost use Rattle.shadow_write.specs.Writes.{writes_of};
 ghost use Rattle.shadow_write.specs.declared.write.Write.{Write as WriteOf};
 ghost use Rattle.reconstruct.specs.Rows.{sectors_for};
 ghost use Rattle.core_state.specs.Committing.{point_of};
 ghost use Rattle.core_client.specs.Pool.{IsInPool};
 ghost use Rattle.shadow_write.specs.Band.{IsFrontOf};
-ghost use Rattle.core_client.specs.Writing.{IsOnBank, IsPassedOrMade, IsPlanOf};
+ghost use Rattle.core_client.specs.Writing.{ChecksPlace, IsOnBank, IsPassedOrMade, IsPlanOf};
 
+use crate::checking::reads_otherwise;
 use crate::write_column;
 use bank_trait::Bank;
 use reconstruct::{Rows, encode};
@@ -97,5 +98,25 @@ impl BlockWrite {
         let write = run.writes[run.next];
         write_column(bank, &run.rows, &write, out);
         run.next += 1;
+    }
+
+    /// Looks at the place of the next write, and tells whether it reads otherwise than the block has it. Where it does
+    /// not, or its device is out by then, the write is passed over.
+    pub fn check<B: Bank>(&mut self, bank: &mut B, out: &mut DeviceSet) -> bool
+        requires left { self.old.next < length self.old.writes }
+        requires inside { All (IsOnBank self.old.rows out.old (B.disk bank.old)) self.old.writes }
+        ensures checks { (write : WriteOf) → slice_get self.old.writes self.old.next ≡ Some write
+            → ChecksPlace self.old.rows write result (point_of out.old (B.disk bank.old))
+            (point_of out.new (B.disk bank.new)) }
+        ensures stays { result ≡ true → self.new ≡ self.old }
+        ensures next { result ≡ false → self.new ≡ record self.old { next = self.old.next + 1 } }
+    {
+        let run = &mut *self.run;
+        let write = run.writes[run.next];
+        let otherwise = reads_otherwise(bank, &run.rows, &write, out);
+        if !otherwise {
+            run.next += 1;
+        }
+        otherwise
     }
 }

@@ -9,6 +9,7 @@
 
 mod block_read;
 mod block_write;
+mod checking;
 mod columns;
 mod columns_read;
 mod fetching;

@@ -44,7 +44,12 @@ pub fn read_column<B: Bank>(
 }
 
 /// Reads a spot, unless its device is out; where that fails, it is out.
-fn read_spot<B: Bank>(bank: &mut B, spot: Spot, out: &mut DeviceSet, into: &mut [u8; 512]) -> bool
+pub(crate) fn read_spot<B: Bank>(
+    bank: &mut B,
+    spot: Spot,
+    out: &mut DeviceSet,
+    into: &mut [u8; 512],
+) -> bool
     requires device { has_device out.old spot.device ≡ false
         → spot.device < (B.disk bank.old).devices }
     requires few { spot.device < 64 }

@@ -6,3 +6,4 @@ pub mod sync
 pub mod attach
 pub mod copy
 pub mod state
+pub mod scrub

@@ -135,7 +135,8 @@ pub use Rattle.core_blocks.specs.declared.refused.PutRefused.{PutRefused}
 pub use Rattle.core_client.proofs.Below.{below_by_write}
 pub use Rattle.core_client.proofs.Decoded.{damaged_alike, decoded_alike, left_decoded, left_undamaged}
 pub use Rattle.core_client.proofs.BlockTurns.{listed_at, read_begun, read_left_over, read_lost_few, read_more}
-pub use Rattle.core_client.proofs.BlockTurns.{read_stays, read_with_more, written_all, written_more, written_none, written_stays}
+pub use Rattle.core_client.proofs.BlockTurns.{read_stays, read_with_more, written_all, written_more, written_none}
+pub use Rattle.core_client.proofs.BlockTurns.{written_stays}
 pub use Rattle.core_state.proofs.SpotReads.{outs_by_step}
 pub use Rattle.core_state.proofs.Outs.{outs_called, outs_none}
 pub use Rattle.core_client.proofs.Places.{close_to_end, in_pool, one_sector, widths_of}
@@ -189,14 +190,20 @@ pub use Rattle.core_turns.specs.Getting.{HoldsGet, IsGetOf, IsMoreOf, IsReadKind
 pub use Rattle.core_turns.specs.Getting.{KeepsGet, ReadsTurn, SolvesGet, TellsGet, answer_of, hold_of, to_solve_of}
 pub use Rattle.core_turns.specs.Getting.{question_for, pool_widths}
 pub use Rattle.core_turns.specs.Putting.{AsksAlike, BeginsPutSo, BeginsPutTurn, FillsPut, GivesUp, HoldsPut}
-pub use Rattle.core_turns.specs.Putting.{IsFilledWith, IsMorePut, IsPutOf, LeavesBlocks, StoresBlock, WritesOne}
-pub use Rattle.core_turns.specs.Putting.{WritesTurn, filled_entry, hold_on, refused_turn}
+pub use Rattle.core_turns.specs.Putting.{IsFilledWith, IsMorePut, IsPutOf, LeavesBlocks, StoresBlock, WritesNext}
+pub use Rattle.core_turns.specs.Putting.{WritesOne, ChecksNext, WritesTurn, filled_entry, hold_on, looked_at, mend_at}
+pub use Rattle.core_turns.specs.Putting.{refused_turn, written_once}
+pub use Rattle.core_turns.specs.Scrubbing.{BeginsBlock, DropsBlock, FindsBlock, HoldsScrub, IsGoneOver, IsMoreScrub}
+pub use Rattle.core_turns.specs.Scrubbing.{IsScrubOf, LeavesBlock, LooksOne, LooksTurn, MayMend, MendsOne, MendsTurn}
+pub use Rattle.core_turns.specs.Scrubbing.{ReadsBlock, has_sector, mended_of}
+pub use Rattle.core_turns.specs.declared.block_scrub.BlockScrub.{BlockScrub}
 pub use Rattle.core_turns.specs.Rounds.{BeginsRound, IsRoundOf, StepsCopy}
 pub use Rattle.core_turns.specs.Steps.{turn_with}
 pub use Rattle.core_turns.specs.Damage.{Damage, IsDamage, ListsDamage, undamaged}
-pub use Rattle.core_turns.specs.UnderWay.{AreBeside, AreCallsOf, CommitStands, Copying, GroupsStand, HaveNoneInCommon}
-pub use Rattle.core_turns.specs.UnderWay.{HoldingCall, HoldsCall, IsCallOfCore, LiesInPool, NoCommitStands, PutsSpare}
-pub use Rattle.core_turns.specs.UnderWay.{Putting, Reading, SetsContent, ShareNoSector, Stands, TurnGoesOn, actor_of}
+pub use Rattle.core_turns.specs.UnderWay.{AreBeside, AreCallsOf, AreReadOfMap, CommitStands, Copying, GroupsStand}
+pub use Rattle.core_turns.specs.UnderWay.{HaveNoneInCommon, HoldingCall, HoldsCall, IsCallOfCore, IsReadBy, IsReader}
+pub use Rattle.core_turns.specs.UnderWay.{Scrubbing, LiesInPool, NoCommitStands, PutsSpare, entry_read, Putting}
+pub use Rattle.core_turns.specs.UnderWay.{Reading, SetsContent, ShareNoSector, Stands, TurnGoesOn, actor_of}
 pub use Rattle.core_turns.specs.UnderWay.{hold_of_call, ranges_of, shown_in, shown_of}
 pub use Rattle.core_turns.specs.declared.attaching.AttachRun.{AttachRun}
 pub use Rattle.core_turns.specs.declared.attaching.FreeDevice.{FreeDevice}

@@ -5,5 +5,6 @@ pub mod Ends
 pub mod Ranges
 pub mod Calls
 pub mod Stands
+pub mod Written
 pub mod Writes
 pub mod Moved

@@ -2,3 +2,4 @@ pub mod Turns
 pub mod Laws
 pub mod Calls
 pub mod Stands
+pub mod Covered

@@ -6,3 +6,4 @@ pub mod Frames
 pub mod StandFrames
 pub mod Writes
 pub mod Calls
+pub mod Reads

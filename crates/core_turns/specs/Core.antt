@@ -8,8 +8,8 @@ use Rattle.core_open.specs.Pool.{Pool, State, IsPool, HasBank}
 use Rattle.uberblock_ring.specs.Uberblock.{Uber, max_group}
 
 -- the pool, the holds of the calls under way, the group that was begun last, who makes it where it isn't answered, who
--- copies sectors where a job is under way, who attaches a device, and how many devices may be out: the pool's, and one
--- that has joined it with a group that isn't answered
+-- copies sectors where a job is under way, who attaches a device, who scrubs, and how many devices may be out: the
+-- pool's, and one that has joined it with a group that isn't answered
 pub record Core : Type 0 where
   pub pool : Pool
   pub holds : List Hold
@@ -17,6 +17,7 @@ pub record Core : Type 0 where
   pub committing : Option ℕ
   pub copying : Option ℕ
   pub attaching : Option ℕ
+  pub scrubbing : Option ℕ
   pub reach : ℕ
 
 -- how many groups were begun and aren't answered

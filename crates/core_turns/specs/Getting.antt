@@ -139,8 +139,8 @@ pub record IsSolvable (block : ToSolve) : Type 0 where
 abbrev pub question_for : ToSolve → Question
 question_for block = question_of block.layout block.read block.len block.digest block.widths
 
--- What was solved has the block's length, and is what the first choice of suspects tells of the columns that tells bytes
--- of its digest; it is damaged only where none does.
+-- What was solved has the block's length, and is what the first choice of suspects tells of the columns that tells
+-- bytes of its digest; it is damaged only where none does.
 abbrev pub IsSolved : ToSolve → Solved → Type 0
 IsSolved block NotYet = ⊥
 IsSolved block (Bytes bytes) = (length bytes ≡ block.len) × IsDecoded (question_for block) bytes

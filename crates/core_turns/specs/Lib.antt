@@ -4,6 +4,8 @@ pub mod TurnMap
 pub mod Getting
 pub mod Freeing
 pub mod Putting
+pub mod Scrubbing
+pub mod ScrubRun
 pub mod Committing
 pub mod Copying
 pub mod Rounds

@@ -1,6 +1,6 @@
 -- Puts, turn by turn.
-use Rattle.std.specs.Prelude.{◌≡◌, ℕ, ◌+◌, ◌<◌, ◌≤◌, List, ◌∷◌, [], ◌++◌, length, slice_get, Option, Some, None}
-use Rattle.std.specs.Prelude.{Contains, ⊤}
+use Rattle.std.specs.Prelude.{◌≡◌, ℕ, ◌+◌, ◌<◌, ◌≤◌, List, ◌∷◌, [], ◌++◌, length, slice_get, Option, Some, None, Bool}
+use Rattle.std.specs.Prelude.{Contains, false, true, ⊤}
 use Rattle.sha2.specs.Sha256.{sha256}
 use Rattle.range_locks.specs.declared.hold.Hold.{Hold}
 use Rattle.range_locks.specs.declared.hold.HoldKind.TheVariants.{Shared}
@@ -23,13 +23,14 @@ use Rattle.core_blocks.specs.Blocks.{AreUnderWay, IsUnderWay, put_run}
 use Rattle.core_blocks.specs.Kept.{NoneFree, SparesAll}
 use Rattle.core_blocks.specs.Puts.{BeginsPut, HoldsBack, IsRangeFor, sectors_taken}
 use Rattle.core_blocks.specs.Usage.{AddsAtMost}
-use Rattle.core_state.specs.Committing.{point_of}
+use Rattle.core_state.specs.Committing.{Point, point_of}
 use Rattle.shadow_write.specs.Band.{AsksSame, IsFrontOf}
 use Rattle.core_client.specs.Pool.{IsInPool}
-use Rattle.core_client.specs.Writing.{IsPassedOrMade, IsPlanOf}
+use Rattle.core_client.specs.Writing.{ChecksPlace, IsPassedOrMade, IsPlanOf}
 use Rattle.core_client.specs.BlockTurns.{IsWrittenSoFar}
 use Rattle.core_turns.specs.declared.filling.Filled.{Filled}
 use Rattle.core_turns.specs.declared.filling.ToFill.{ToFill}
+use Rattle.core_turns.specs.declared.getting.GetRun.{GetRun}
 use Rattle.core_turns.specs.declared.putting.PutRun.{PutRun}
 use Rattle.core_turns.specs.declared.turn.Turn.{Turn}
 use Rattle.core_turns.specs.declared.turn.Turn.TheVariants.{More, Busy, Done}
@@ -43,6 +44,17 @@ hold_on range actor = record {
   hi = range.layout.start + allocated_of range.layout;
   actor = actor;
   kind = Shared;
+}
+
+-- a put of a block's own bytes to its own sectors, which a call that reads it holds, at this front of these widths
+abbrev pub mend_at : GetRun → Reflow → ℕ → PutRun
+mend_at read reflow done = record {
+  hold = read.hold;
+  range = record { id = read.entry.id; birth = read.entry.birth; layout = read.read.layout };
+  len = read.entry.len;
+  reflow = reflow;
+  done = done;
+  filled = None;
 }
 
 -- A put holds its sectors from now on, or memory was exhausted for that.
@@ -196,19 +208,40 @@ pub record IsStoppedPut (old new : Core) (run : PutRun) (given : Answer) : Type 
   pub given_is : given ≡ answer.TooManyFailed old.pool.out
   pub gives_up : GivesUp old new run
 
+-- a put's block of which one write more was made or passed over
+abbrev pub written_once : Filled → Filled
+written_once filled = record filled { write = record filled.write { next = filled.write.next + 1 } }
+
+-- The next write of a block that was filled in was made, or passed over where its device is out.
+pub record WritesNext (old : PutRun) (before : Point) (new : PutRun) (after : Point) : Type 0 where
+  pub filled : Filled
+  pub filled_is : old.filled ≡ Some filled
+  pub write : Write
+  pub write_is : slice_get filled.write.writes filled.write.next ≡ Some write
+  pub next_is : new ≡ record old { filled = Some (written_once filled) }
+  pub made : IsPassedOrMade filled.write.rows write before after
+
+-- a block behind a look at its next place, by whether that reads otherwise than the block has it
+abbrev pub looked_at : PutRun → Filled → Bool → PutRun
+looked_at run filled true = run
+looked_at run filled false = record run { filled = Some (written_once filled) }
+
+-- The next place of a block that was filled in was looked at, and passed over unless it reads otherwise.
+pub record ChecksNext (old : PutRun) (before : Point) (otherwise : Bool) (new : PutRun) (after : Point) : Type 0
+  where
+    pub filled : Filled
+    pub filled_is : old.filled ≡ Some filled
+    pub write : Write
+    pub write_is : slice_get filled.write.writes filled.write.next ≡ Some write
+    pub next_is : new ≡ looked_at old filled otherwise
+    pub checks : ChecksPlace filled.write.rows write otherwise before after
+
 -- The next write of a put was made, or passed over where its device is out.
 pub record WritesOne (before : CoreState) (run : PutRun) (after : CoreState) (next : PutRun) : Type 0 where
   pub few : HasTooManyOut before.core → ⊥
-  pub filled : Filled
-  pub filled_is : run.filled ≡ Some filled
-  pub write : Write
-  pub write_is : slice_get filled.write.writes filled.write.next ≡ Some write
-  pub next_is : next ≡ record run {
-    filled = Some (record filled { write = record filled.write { next = filled.write.next + 1 } });
-  }
-  pub rest : after.core ≡ record before.core { pool = record before.core.pool { out = after.core.pool.out } }
-  pub made : IsPassedOrMade filled.write.rows write (point_of before.core.pool.out before.disk)
+  pub writes : WritesNext run (point_of before.core.pool.out before.disk) next
       (point_of after.core.pool.out after.disk)
+  pub rest : after.core ≡ record before.core { pool = record before.core.pool { out = after.core.pool.out } }
 
 -- what a turn that writes comes to
 abbrev pub WritesTurn : CoreState → PutRun → CoreState → Turn PutRun → Type 0

@@ -64,7 +64,7 @@ impl AttachRun {
         }
     }
 
-    /// Takes its commit, whose turn gives it back: a ring of which nothing was read stands in its place.
+    /// Takes its commit's first half, whose turn gives it back: a ring of which nothing was read stands in its place.
     fn take(&mut self) -> AttachRun
         ensures { result ≡ self.old }
     {
@@ -314,19 +314,16 @@ impl Core {
             (at_disk self.new (B.disk bank.new)) (turn_with run.new result) }
         ensures of { IsMoreAttach self.new (B.disk bank.new) (turn_with run.new result) }
     {
-        let AttachRun::Signs { run: commit, why } = run.take() else {
+        let AttachRun::Signs { run: commit, why } = run else {
             unreachable!();
         };
         match self.make_commit_call(bank, commit) {
-            Turn::More(commit) => {
-                *run = AttachRun::Signs { run: commit, why };
-                None
-            }
-            Turn::Done(Answer::Synced { group }) => {
+            None => None,
+            Some(Answer::Synced { group }) => {
                 let width = self.uber.reflow().to;
-                self.stop_attach(answer_with(why, width, group))
+                self.stop_attach(answer_with(*why, width, group))
             }
-            Turn::Busy { .. } | Turn::Done(_) => unreachable!(),
+            Some(_) => unreachable!(),
         }
     }
 }

@@ -12,6 +12,7 @@ ghost use Rattle.core_turns.specs.Core.{IsCore, at_disk, HasBankOf};
 ghost use Rattle.core_commit.specs.CommitTurns.{CommitRun as RunOf};
 ghost use Rattle.core_turns.specs.Committing.{AnswersUber, BeginsCommit, DropsHold, HasTable, IsCommitOf, StepsCommit};
 ghost use Rattle.core_turns.specs.Committing.{TakesHold, hold_for};
+ghost use Rattle.core_turns.specs.Steps.{turn_with};
 ghost use Rattle.core_turns.specs.UnderWay.{TurnGoesOn};
 
 use crate::turn::too_many;
@@ -126,11 +127,11 @@ impl Core {
 
     /// The next device call of a commit. Where none is left for the devices in use, its group is answered:
     /// what was held back until it is free, and where it ended an expansion the pool has grown.
-    pub fn commit_step<B: Bank>(&mut self, bank: &mut B, run: CommitRun) -> Turn<CommitRun>
-        requires of { IsCommitOf self.old run }
+    pub fn commit_step<B: Bank>(&mut self, bank: &mut B, run: &mut CommitRun) -> Option<Answer>
+        requires of { IsCommitOf self.old run.old }
         requires bank { HasBankOf self.old (B.disk bank.old) }
-        ensures steps { StepsCommit (at_disk self.old (B.disk bank.old)) run
-            (at_disk self.new (B.disk bank.new)) result }
+        ensures steps { StepsCommit (at_disk self.old (B.disk bank.old)) run.old
+            (at_disk self.new (B.disk bank.new)) (turn_with run.new result) }
         ensures bank { HasBankOf self.new (B.disk bank.new) }
         ensures out { OnlyFailedGoOut (point_of self.old.pool.out (B.disk bank.old))
             (point_of self.new.pool.out (B.disk bank.new)) }
@@ -143,27 +144,26 @@ impl Core {
     pub(crate) fn make_commit_call<B: Bank>(
         &mut self,
         bank: &mut B,
-        run: CommitRun,
-    ) -> Turn<CommitRun>
-        requires of { IsCommitOf self.old run }
+        run: &mut CommitRun,
+    ) -> Option<Answer>
+        requires of { IsCommitOf self.old run.old }
         requires bank { HasBankOf self.old (B.disk bank.old) }
         ensures is { IsCore self.old }
-        ensures steps { StepsCommit (at_disk self.old (B.disk bank.old)) run
-            (at_disk self.new (B.disk bank.new)) result }
+        ensures steps { StepsCommit (at_disk self.old (B.disk bank.old)) run.old
+            (at_disk self.new (B.disk bank.new)) (turn_with run.new result) }
     {
-        let mut run = run;
         if self.has_too_many_out() {
-            return Turn::Done(too_many(self.out));
+            return Some(too_many(self.out));
         }
+        let group = run.uber().group();
         match run.step(bank, &mut self.out) {
-            CommitStep::Called => Turn::More(run),
+            CommitStep::Called => None,
             CommitStep::Ended => {
-                let group = run.uber().group();
                 let Some(actor) = self.committing else {
                     unreachable!();
                 };
                 self.answer_group(actor, run.uber());
-                Turn::Done(Answer::Synced { group })
+                Some(Answer::Synced { group })
             }
         }
     }

@@ -1,5 +1,6 @@
 // Reads, turn by turn.
-ghost use Rattle.std.specs.Prelude.{◌≡◌, ℕ, List, false, ◌+◌, ◌^◌, ◌<◌, ◌≤◌, ◌↔◌, IfSome, IsTrue, OnErr, OnOk, []};
+ghost use Rattle.std.specs.Prelude.{◌≡◌, ℕ, List, false, ◌+◌, ◌^◌, ◌<◌, ◌≤◌, ◌↔◌, IfOk, IfSome, IsTrue, OnErr, OnOk};
+ghost use Rattle.std.specs.Prelude.{[]};
 ghost use Rattle.bank_trait.specs.Disk.{Disk, Unchanged};
 ghost use Rattle.row_layout.specs.Layout.{rows_of};
 ghost use Rattle.reconstruct.specs.Rows.{sectors_for};
@@ -38,12 +39,12 @@ use width_map::width_at;
 #[derive(Drop)]
 pub struct GetRun {
     kind: Kind,
-    hold: Hold,
-    entry: IndexEntry,
-    read: BlockRead,
+    pub(crate) hold: Hold,
+    pub(crate) entry: IndexEntry,
+    pub(crate) read: BlockRead,
     /// The widths of the pool at its first turn.
     widths: Widths,
-    solved: Solved,
+    pub(crate) solved: Solved,
 }
 
 /// No memory was left.
@@ -144,15 +145,23 @@ impl GetRun {
         ensures ok { OnOk result (SolvesGet self.old self.new) }
         ensures err { OnErr result (self.new ≡ self.old) }
     {
-        self.solved = solve_columns(
+        self.solved = self.solved_columns(alloc)?;
+        Ok(())
+    }
+
+    /// What the columns that were read come to.
+    pub(crate) fn solved_columns(&self, alloc: Global) -> Result<Solved, OutOfMemory>
+        requires len { sectors_for self.now.entry.len ≡ self.now.read.layout.sectors }
+        ensures { IfOk result (IsSolved (to_solve_of self.now)) }
+    {
+        solve_columns(
             alloc,
             self.read.layout(),
             self.read.columns(),
             self.entry.len,
             &self.entry.digest,
             &self.widths,
-        )?;
-        Ok(())
+        )
     }
 }
 

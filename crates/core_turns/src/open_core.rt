@@ -11,9 +11,9 @@ use std::alloc::Global;
 use std::marker::Model;
 use uberblock_ring::{DeviceSet, Uber};
 
-/// The last answered group's uberblock, the blocks with the sectors that they take, the devices that
-/// are out, the front, the holds of the calls under way, the group that was begun last, who makes it where it isn't
-/// answered, who copies sectors where a job is under way, who attaches a device, and how many devices the pool reaches
+/// The last answered group's uberblock, the blocks with the sectors that they take, the devices that are out, the
+/// front, the holds of the calls under way, the group that was begun last, who makes it where it isn't answered, who
+/// copies sectors where a job is under way, who attaches a device, who scrubs, and how many devices the pool reaches
 /// to: one more than its width once a device has joined it with a group that isn't answered. A commit that is cut short
 /// stays there: too many devices are out then.
 #[derive(Drop)]
@@ -27,6 +27,7 @@ pub struct Core {
     pub(crate) committing: Option<u8>,
     pub(crate) copying: Option<u8>,
     pub(crate) attaching: Option<u8>,
+    pub(crate) scrubbing: Option<u8>,
     pub(crate) reach: u32,
 }
 
@@ -42,6 +43,7 @@ impl Model for Core {
       committing = core.committing;
       copying = core.copying;
       attaching = core.attaching;
+      scrubbing = core.scrubbing;
       reach = core.reach;
     } };
 
@@ -52,6 +54,7 @@ impl Model for Core {
       committing = core.committing;
       copying = core.copying;
       attaching = core.attaching;
+      scrubbing = core.scrubbing;
       reach = core.reach;
     }) };
 }
@@ -66,6 +69,7 @@ impl Core {
           committing = None;
           copying = None;
           attaching = None;
+          scrubbing = None;
           reach = pool.uber.reflow.to;
         } }
     {
@@ -82,6 +86,7 @@ impl Core {
             committing: None,
             copying: None,
             attaching: None,
+            scrubbing: None,
             reach,
         }
     }

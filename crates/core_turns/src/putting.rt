@@ -1,5 +1,6 @@
 // Puts, turn by turn.
-ghost use Rattle.std.specs.Prelude.{◌≡◌, ℕ, List, false, ◌+◌, ◌<◌, ◌≤◌, ◌^◌, ◌↔◌, IsTrue, OnErr, OnOk, Some, length};
+ghost use Rattle.std.specs.Prelude.{◌≡◌, ℕ, All, List, false, ◌+◌, ◌<◌, ◌≤◌, ◌^◌, ◌↔◌, IsTrue, OnErr, OnOk, Some};
+ghost use Rattle.std.specs.Prelude.{length};
 ghost use Rattle.row_layout.specs.Layout.{allocated_of};
 ghost use Rattle.range_locks.specs.Holds.{IsClear};
 ghost use Rattle.reconstruct.specs.Rows.{sectors_for};
@@ -14,13 +15,14 @@ ghost use Rattle.core_turns.specs.Core.{Core as CoreOf, IsCore, at_disk, HasBank
 ghost use Rattle.core_turns.specs.Getting.{HasTooManyOut};
 ghost use Rattle.core_turns.specs.Putting.{BeginsPutTurn, EndsPut, FillsPut, IsFillable, IsMadeUp, left_to_fill};
 ghost use Rattle.core_turns.specs.Putting.{to_fill_of, GivesUp, GivesUpTurn, HoldsRange, IsMorePut, IsPutOf};
-ghost use Rattle.core_turns.specs.Putting.{IsStoppedPut, WritesTurn, refused_turn};
+ghost use Rattle.core_turns.specs.Putting.{ChecksNext, IsStoppedPut, WritesNext, WritesTurn, mend_at, refused_turn};
+ghost use Rattle.core_client.specs.Writing.{IsOnBank};
 ghost use Rattle.core_turns.specs.Steps.{turn_with};
 ghost use Rattle.core_turns.specs.UnderWay.{TurnGoesOn};
 ghost use Rattle.core_turns.specs.declared.turn.Turn.TheVariants.{Done};
 
 use crate::filling::{Filled, MadeUp, ToFill};
-use crate::getting::OutOfMemory;
+use crate::getting::{GetRun, OutOfMemory};
 use crate::turn::too_many;
 use crate::{Core, Turn};
 use bank_trait::Bank;
@@ -29,11 +31,12 @@ use core_state::Answer;
 use range_locks::{Hold, HoldKind, LockRefused, Locks};
 use reflow_mark::Reflow;
 use std::alloc::Global;
+use uberblock_ring::DeviceSet;
 
 /// A put under way. It holds its block's sectors; no other call has one of them.
 #[derive(Drop)]
 pub struct PutRun {
-    hold: Hold,
+    pub(crate) hold: Hold,
     range: PutRange,
     len: u32,
     reflow: Reflow,
@@ -71,6 +74,26 @@ fn hold_range(locks: &mut Locks, range: &PutRange, actor: u8) -> Option<Hold>
 }
 
 impl PutRun {
+    /// A put of a block's own bytes to its own sectors, which another call holds. They go to each place that an
+    /// expansion
+    /// that has come so far asks for.
+    pub(crate) fn of_block(read: &GetRun, reflow: Reflow, done: u64) -> PutRun
+        ensures { result ≡ mend_at read.now reflow done }
+    {
+        PutRun {
+            hold: read.hold,
+            range: PutRange {
+                id: read.entry.id,
+                birth: read.entry.birth,
+                layout: *read.read.layout(),
+            },
+            len: read.entry.len,
+            reflow,
+            done,
+            filled: None,
+        }
+    }
+
     /// How many bytes the block has.
     pub fn len_bytes(&self) -> u32
         ensures { result ≡ self.now.len }
@@ -141,6 +164,37 @@ impl PutRun {
         let made = self.shape().make_up(alloc, bytes)?;
         self.filled = Some(made.filled);
         Ok(())
+    }
+
+    /// Looks at the next place of a block that was filled in, and tells whether it reads otherwise than the block has
+    /// it. Where it does not, or its device is out by then, it is passed over.
+    pub(crate) fn check<B: Bank>(&mut self, bank: &mut B, out: &mut DeviceSet) -> bool
+        requires left { (filled : FilledOf) × (self.old.filled ≡ Some filled)
+            × (filled.write.next < length filled.write.writes) }
+        requires inside { (filled : FilledOf) → self.old.filled ≡ Some filled
+            → All (IsOnBank filled.write.rows out.old (B.disk bank.old)) filled.write.writes }
+        ensures { ChecksNext self.old (point_of out.old (B.disk bank.old)) result self.new
+            (point_of out.new (B.disk bank.new)) }
+    {
+        match &mut self.filled {
+            Some(filled) => filled.write.check(bank, out),
+            None => unreachable!(),
+        }
+    }
+
+    /// Makes the next write of a block that was filled in, or passes over it where its device is out.
+    pub(crate) fn write_next<B: Bank>(&mut self, bank: &mut B, out: &mut DeviceSet)
+        requires left { (filled : FilledOf) × (self.old.filled ≡ Some filled)
+            × (filled.write.next < length filled.write.writes) }
+        requires inside { (filled : FilledOf) → self.old.filled ≡ Some filled
+            → All (IsOnBank filled.write.rows out.old (B.disk bank.old)) filled.write.writes }
+        ensures { WritesNext self.old (point_of out.old (B.disk bank.old)) self.new
+            (point_of out.new (B.disk bank.new)) }
+    {
+        match &mut self.filled {
+            Some(filled) => filled.write.step(bank, out),
+            None => unreachable!(),
+        }
     }
 
     fn shape(&self) -> ToFill
@@ -259,10 +313,7 @@ impl Core {
         if self.has_too_many_out() {
             return Some(self.stop_put(run));
         }
-        match &mut run.filled {
-            Some(filled) => filled.write.step(bank, &mut self.out),
-            None => unreachable!(),
-        }
+        run.write_next(bank, &mut self.out);
         None
     }
 

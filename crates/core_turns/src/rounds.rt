@@ -18,7 +18,6 @@ use bank_trait::Bank;
 use core_commit::CommitRun;
 use core_state::Answer;
 use std::alloc::Global;
-use std::mem::replace;
 use uberblock_ring::DeviceSet;
 
 /// What a copy has under way between two of its turns.
@@ -191,21 +190,15 @@ impl Core {
         let Some(actor) = self.committing else {
             unreachable!();
         };
-        // A commit's turn takes it and gives it back: a copy that rests stands in its place.
-        let CopyRound::Commits(run) = replace(round, CopyRound::Rests { actor, made: None }) else {
+        let CopyRound::Commits(run) = round else {
             unreachable!();
         };
         match self.commit_step(bank, run) {
-            Turn::More(run) => {
-                *round = CopyRound::Commits(run);
-                None
-            }
-            Turn::Done(Answer::Synced { group }) => {
+            Some(Answer::Synced { group }) => {
                 round.rest(actor, Some(group));
                 None
             }
-            Turn::Done(answer) => Some(answer),
-            Turn::Busy { by: _ } => unreachable!(),
+            answer => answer,
         }
     }
 }

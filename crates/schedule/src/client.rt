@@ -3,8 +3,6 @@ ghost use Rattle.std.specs.Prelude.{◌≡◌, ◌≤◌, ◌↔◌, ℕ, List, 
 ghost use Rattle.client_script.specs.declared.call.ScriptCall.{ScriptCall as CallOf};
 ghost use Rattle.core_turns.specs.Core.{Core as CoreOf};
 ghost use Rattle.schedule.specs.declared.client.UnderWay.{UnderWay as UnderWayOf};
-ghost use Rattle.core_turns.specs.declared.rounds.CopyRound.TheVariants.{Rests};
-ghost use Rattle.schedule.specs.declared.client.Work.TheVariants as work;
 ghost use Rattle.schedule.specs.declared.computing.ToCompute.TheVariants as to_compute;
 ghost use Rattle.schedule.specs.Computing.{IsComputable, IsAskedBy, IsAskedOf, MayGoOnAs};
 ghost use Rattle.schedule.specs.Turned.{MayGoOn};
@@ -28,16 +26,6 @@ pub enum Work {
 }
 
 impl Work {
-    /// A copy that rests: what stands in the place of a work while that has its turn.
-    pub fn resting() -> Work
-        ensures { result ≡ work.Copy (Rests 0 None) }
-    {
-        Work::Copy(CopyRound::Rests {
-            actor: 0,
-            made: None,
-        })
-    }
-
     /// Whether it makes a commit, which was begun.
     pub fn makes_commit(&self) -> bool
         ensures { IsTrue result ↔ MakesCommit self.now }

@@ -5,7 +5,6 @@ ghost use Rattle.reconstruct.specs.Rows.{sectors_for};
 ghost use Rattle.core_blocks.specs.Blocks.{IsUnderWay};
 ghost use Rattle.shadow_write.specs.Band.{IsFrontOf};
 ghost use Rattle.core_client.specs.Pool.{IsInPool};
-ghost use Rattle.core_commit.specs.CommitTurns.{CommitRun as RunOf};
 ghost use Rattle.client_script.specs.Lines.{fill_bytes};
 ghost use Rattle.client_script.specs.Script.{IsAllowed};
 ghost use Rattle.core_turns.specs.declared.filling.Filled.{Filled as FilledOf};
@@ -18,7 +17,6 @@ ghost use Rattle.core_state.specs.declared.answer.Answer.TheVariants as answer;
 ghost use Rattle.schedule.specs.Computing.{FitsWork, IsMadeUpOf, IsComputedOf, IsSolvedOf};
 ghost use Rattle.schedule.specs.Turned.{BeginsCall, GoesOnBy, HasDeviceFor, HasDeviceForTurn, HasTableOf, IsFilledIn};
 ghost use Rattle.schedule.specs.Turned.{MayGoOn, PutGoesOn, ReadGoesOn, WorkGoesOn, WritesOn};
-ghost use Rattle.schedule.specs.declared.client.Work.TheVariants.{Sync as SyncOf};
 
 use crate::client::Work;
 use crate::computing::{Computed, put_bytes};
@@ -27,7 +25,6 @@ use client_script::{Fill, ScriptCall};
 use core_state::{Answer, Kind};
 use core_turns::{Core, GetRun, MadeUp, PutRun, SolvedFrom, Turn};
 use std::alloc::Global;
-use std::mem::replace;
 
 /// How many bytes a put is handed.
 fn fill_len(fill: &Fill) -> u32
@@ -225,37 +222,6 @@ fn go_on_reading<B: Bank>(
     Some(core.get_end(run))
 }
 
-/// The next turn of a sync, whose commit takes its run and gives it back. Apart from `go_on`, so that what it takes on
-/// the stack is not cleared in the turns of others.
-fn go_on_syncing<B: Bank>(
-    bank: &mut B,
-    core: &mut Core,
-    call: &ScriptCall,
-    work: &mut Work,
-) -> Option<Answer>
-    requires sync { (run : RunOf) × (work.old ≡ SyncOf run) }
-    requires may { MayGoOn core.old call.now work.old }
-    requires bank { HasBankOf core.old (B.disk bank.old) }
-    ensures goes { GoesOnBy (at_disk core.old (B.disk bank.old)) (at_disk core.new (B.disk bank.new))
-        call.now work.old (turn_with work.new result) }
-    ensures goes_on { WorkGoesOn work.old (at_disk core.old (B.disk bank.old))
-        (at_disk core.new (B.disk bank.new)) }
-    ensures there { HasDeviceForTurn (B.disk bank.new) (turn_with work.new result) }
-    ensures bank { HasBankOf core.new (B.disk bank.new) }
-{
-    let Work::Sync(run) = replace(work, Work::resting()) else {
-        unreachable!();
-    };
-    match core.commit_step(bank, run) {
-        Turn::More(next) => {
-            *work = Work::Sync(next);
-            None
-        }
-        Turn::Busy { by: _ } => unreachable!(),
-        Turn::Done(answer) => Some(answer),
-    }
-}
-
 /// The next turn of a call that is under way: it goes on, or is answered.
 pub fn go_on<B: Bank>(
     alloc: Global,
@@ -282,7 +248,7 @@ pub fn go_on<B: Bank>(
     match work {
         Work::Put(run) => go_on_putting(alloc, bank, core, call, run, computed.into_block()),
         Work::Read(run) => go_on_reading(alloc, bank, core, run, computed.into_solved()),
-        Work::Sync(_) => go_on_syncing(bank, core, call, work),
+        Work::Sync(run) => core.commit_step(bank, run),
         Work::Attach(run) => core.attach_step(alloc, bank, run),
         Work::Copy(round) => core.copy_step(alloc, bank, round),
     }

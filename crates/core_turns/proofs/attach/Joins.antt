@@ -2,9 +2,8 @@
 use Rattle.core_turns.proofs.Words.{◌≡◌, ℕ, ◌+◌, ◌<◌, List, [], ◌∷◌, Some, refl, arith, pow-le-pow_right, Disk, Reflow}
 use Rattle.core_turns.proofs.Words.{IsRightUber, IsWiderByOne, MayRecord, choice_still, Map, Kept, Setting, point_of}
 use Rattle.core_turns.proofs.Words.{CommitRun, IsLaidDown, MayWiden, widened_kept, widened_run, widened_uber}
-use Rattle.core_turns.proofs.Words.{commit_widened, widened_right, Core, HasBankOf, IsCore, at_disk, IsCommitOf}
-use Rattle.core_turns.proofs.Words.{Damage, ListsDamage, IsHeldAlone, hold_for, CommitStands, HoldingCall, Stands}
-use Rattle.core_turns.proofs.Words.{Contains}
+use Rattle.core_turns.proofs.Words.{commit_widened, widened_right, Core, HasBankOf, IsCore, at_disk, IsCommitOf, Damage}
+use Rattle.core_turns.proofs.Words.{ListsDamage, IsHeldAlone, hold_for, CommitStands, HoldingCall, Stands, Contains}
 use Rattle.core_turns.proofs.state.Damage.{lists_made}
 use Rattle.core_turns.proofs.state.Frames.{calls_hold_on}
 
@@ -69,4 +68,4 @@ joined_stands {setting} {last} {next} {map} {damage} {contents} {calls} core run
     } in
     let lists : (kept : Kept) → Contains (last ∷ widened_kept next ∷ []) kept → ListsDamage damage kept =
     lists_made damage last next (widened_kept next) refl stands.lists in
-    search (calls_hold_on damage.listed contents calls core (record core { reach = core.reach + 1 }) disk refl stands.each)
+    search (calls_hold_on damage contents calls core (record core { reach = core.reach + 1 }) disk refl stands.each)

@@ -4,7 +4,7 @@ use Rattle.core_turns.proofs.Words.{cases_lt, Disk, Lawful, Unchanged, Reflow, I
 use Rattle.core_turns.proofs.Words.{Point, point_of, Nowhere, OnlyFailedGoOut, CommitRun, JoinStep, JoinRun, IsJoining}
 use Rattle.core_turns.proofs.Words.{joining_goes_on, join_gone, join_spares, Joins, Core, CoreState, IsCore, at_disk}
 use Rattle.core_turns.proofs.Words.{HoldsAttach, MayReachOn, OnlyGoOut, StepsJoin, StopsAttach, IsCommitOf, HoldingCall}
-use Rattle.core_turns.proofs.Words.{Damage, AreCallsOf, Stands, ap, ⊎_elim, ◌≤◌}
+use Rattle.core_turns.proofs.Words.{Damage, AreCallsOf, Stands, ap, ⊎_elim}
 use Rattle.core_commit.specs.declared.join_run.JoinStep.TheVariants as step
 use Rattle.core_turns.proofs.attach.Turns.{join_goes_commit}
 use Rattle.core_turns.proofs.state.Frames.{IsCallOff, IsOff, Leaves, OnlyOut, call_off_nowhere, calls_beside}
@@ -27,7 +27,7 @@ module _ {setting : Setting} {last : Kept} {begun : List Kept} {map : Map} {dama
       → Stands setting last begun map damage contents calls commit (at_disk core disk)
       → Stands setting last begun map damage contents calls commit (at_disk (record core { attaching = by }) disk)
   attaching_stands core by disk is stands = stands_held core (record core { attaching = by }) disk is refl
-      (search keeps_same) (search) (λ call listed. inr (stands.each call listed)) stands
+      (search keeps_same) (search) (λ of. of) (λ call listed. inr (stands.each call listed)) stands
 
   -- A device was read.
   pub look_stands : (before after : CoreState) → IsCore before.core → after.core ≡ before.core

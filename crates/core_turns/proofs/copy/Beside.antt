@@ -1,10 +1,10 @@
 -- A job beside puts, and beside the answer of a commit.
-use Rattle.core_turns.proofs.Words.{◌≡◌, ⊎_elim, ℕ, ◌<◌, ◌≤◌, List, sym, subst, arith, cases_lt, Hold, Overlaps}
-use Rattle.core_turns.proofs.Words.{State, Valid, Moved, Reflow, NeedsOld, Layout, end_of, sector_of, IsRequiredPlace}
-use Rattle.core_turns.proofs.Words.{NeedsScratch, are_required, Job, job_begin, job_end, Point, Cell, IsCell, RightAt}
-use Rattle.core_turns.proofs.Words.{IsCommitChoice, MayRecord, front_behind, IsClose, CopiesSector, IsTarget, MovesMark}
-use Rattle.core_turns.proofs.Words.{choice_moves, front_stays_behind, cell_close, job_at_front, job_some, target_free}
-use Rattle.core_turns.proofs.Words.{IsInPool, close_to_end, in_pool, one_sector, widths_of, JobRun, GoesOnIn, HoldsJob}
+use Rattle.core_turns.proofs.Words.{◌≡◌, ⊎_elim, ℕ, ◌<◌, ◌≤◌, List, arith, cases_lt, Hold, State, Valid, Moved, Reflow}
+use Rattle.core_turns.proofs.Words.{NeedsOld, Layout, end_of, sector_of, IsRequiredPlace, NeedsScratch, are_required}
+use Rattle.core_turns.proofs.Words.{Job, job_begin, job_end, Point, Cell, IsCell, RightAt, IsCommitChoice, MayRecord}
+use Rattle.core_turns.proofs.Words.{front_behind, IsClose, CopiesSector, IsTarget, MovesMark, choice_moves}
+use Rattle.core_turns.proofs.Words.{front_stays_behind, cell_close, job_at_front, job_some, target_free, IsInPool}
+use Rattle.core_turns.proofs.Words.{close_to_end, in_pool, one_sector, widths_of, JobRun, GoesOnIn, HoldsJob}
 use Rattle.core_turns.proofs.Words.{run_beside, moved_goes_on, moved_holds, sector_inside, CopyRun, PutRun, Core}
 use Rattle.core_turns.proofs.Words.{IsCore, hold_for, CopiesCells, IsJobOf, IsPutOf, ShareNoSector, Excepted, IsClosed}
 use Rattle.reflow_mark.specs.declared.reflow.State.TheVariants.{None}
@@ -35,10 +35,7 @@ job_off_written {core} {run} {other} out of job apart = record {
       (λ asked.
       let same : sector ≡ cell.sector = search one_sector in
       let mine = sector_inside layout reflow row column of.pool required.0 in
-      apart (subst (λ (h : Hold). Overlaps run.hold h.lo h.hi) (sym job.hold_is) (rw of.hold_is (record {
-        begins = omega (arith, mine.0, same, inside.1);
-        ends = omega (arith, mine.1, same, inside.0);
-      }))))
+      apart sector (rw of.hold_is mine) (rw (job.hold_is, same) inside))
       (λ copied. search (target_free, in_pool)) place;
 }
 

@@ -1,19 +1,20 @@
 -- The end of a job beside the calls that are under way: the front is behind it, and each call goes on where it was.
-use Rattle.core_turns.proofs.Words.{◌≡◌, ℕ, List, None, Option, Some, refl, arith, Contains, Disk, Hold, EndsHold}
+use Rattle.core_turns.proofs.Words.{◌≡◌, ℕ, ◌<◌, List, None, Option, Some, refl, arith, Contains, Disk, Hold, EndsHold}
 use Rattle.core_turns.proofs.Words.{Reflow, Layout, end_of, sector_of, Gains, job_begin, job_end, Map, layout_of, Kept}
 use Rattle.core_turns.proofs.Words.{Setting, point_of, IsFrontOf, call_count, cell_below, cell_close, job_at_front}
 use Rattle.core_turns.proofs.Words.{job_front, job_some, rows_same, gains_item, gains_old, pairs_beside, pairs_lose}
 use Rattle.core_turns.proofs.Words.{IsInPool, CommitRun, run_leaves_choice, run_ends, HoldsMap, listed_in_pool, CopyRun}
 use Rattle.core_turns.proofs.Words.{GetRun, PutRun, Core, IsCore, as_begun, at_disk, pool_at, IsCommitOf, hold_for}
 use Rattle.core_turns.proofs.Words.{CopiesCells, EndsJob, IsJobOf, IsGetOf, AsksAlike, IsPutOf, HoldingCall, Putting}
-use Rattle.core_turns.proofs.Words.{Reading, Copying, AreBeside, AreCallsOf, GroupsStand, HaveNoneInCommon, HoldsCall}
-use Rattle.core_turns.proofs.Words.{Damage, IsCallOfCore, ShareNoSector, Stands, actor_of, hold_of_call}
-use Rattle.core_turns.proofs.Words.{Excepted, IsClosed}
-use Rattle.core_turns.proofs.state.Calls.{beside_turn}
+use Rattle.core_turns.proofs.Words.{Reading, Scrubbing, Copying, AreBeside, AreCallsOf, GroupsStand, HoldsCall, Damage}
+use Rattle.core_turns.proofs.Words.{IsCallOfCore, ShareNoSector, Stands, actor_of, hold_of_call, AreReadOfMap, Excepted}
+use Rattle.core_turns.proofs.Words.{IsClosed}
+use Rattle.core_turns.proofs.state.Reads.{of_map_fewer, reads_less}
+use Rattle.core_turns.proofs.state.Calls.{beside_turn, share_none, some_held}
 use Rattle.core_turns.proofs.state.Frames.{ends_other, hold_listed}
 use Rattle.core_turns.proofs.read.Stands.{call_loses}
 use Rattle.core_turns.proofs.state.Holds.{alone_passes}
-use Rattle.core_turns.proofs.copy.Calls.{apart_outside, ranges_copied}
+use Rattle.core_turns.proofs.copy.Calls.{apart_outside, one_job, ranges_copied}
 use Rattle.core_turns.proofs.copy.Turns.{below_behind}
 use Rattle.core_turns.proofs.put.Moved.{block_moves, put_holds_moves, put_moves}
 use Rattle.core_turns.proofs.state.Rows.{IsBlockOutside, row_outside}
@@ -39,12 +40,16 @@ module _ {core : Core} {run : CopyRun} (is : IsCore core) (of : IsJobOf core run
   -- so is that of a put,
   put_same : (put : PutRun) → IsPutOf core put → ShareNoSector run.hold put.hold
       → AsksAlike put.range.layout reflow core.pool.done reflow behind
-  put_same put its apart = block_same its.pool (search (apart_outside, of, arith))
+  put_same put its apart =
+      let some : put.hold.lo < put.hold.hi = search (some_held, its.pool, arith) in
+      block_same its.pool (search (apart_outside, of, some, arith))
 
   -- and that of a read.
   get_same : (get : GetRun) → IsGetOf core get → ShareNoSector run.hold get.hold
       → AsksAlike get.read.layout reflow core.pool.done reflow behind
-  get_same get its apart = block_same its.pool (search (apart_outside, of, arith))
+  get_same get its apart =
+      let some : get.hold.lo < get.hold.hi = search (some_held, its.pool, arith) in
+      block_same its.pool (search (apart_outside, of, some, arith))
 
   module _ {holds : List Hold} (ends : EndsHold core.holds holds run.hold) where
     -- the core that the end leaves
@@ -53,20 +58,54 @@ module _ {core : Core} {run : CopyRun} (is : IsCore core) (of : IsJobOf core run
 
     -- ---- the calls
 
-    call_ended : (call : HoldingCall) → HaveNoneInCommon (Copying run) call → Contains holds (hold_of_call call)
+    call_ended : (call : HoldingCall) → AreBeside (Copying run) call → Contains holds (hold_of_call call)
         → IsCallOfCore core call → IsCallOfCore ended call
-    call_ended (Putting put) apart held its = search (put_moves, put_same, front)
-    call_ended (Reading get) apart held its = search
-    call_ended (Copying other) apart held its = absurd apart
+    call_ended (Putting put) beside held its =
+        let apart : ShareNoSector run.hold put.hold =
+        share_none (Copying run) (Putting put) (λ reads. reads) beside.apart in
+        search (put_moves, put_same, front)
+    call_ended (Reading get) beside held its = search
+    call_ended (Scrubbing scrub) beside held its =
+        let apart : ShareNoSector run.hold scrub.mend.hold =
+        rw its.hold (share_none (Copying run) (Scrubbing scrub) (λ reads. reads) beside.apart) in
+        let held_too : Contains holds scrub.mend.hold = rw its.hold held in
+        record {
+          read = let read = its.read in search;
+          mend = let mend = its.mend in search (put_moves, put_same, front);
+          under_way = its.under_way;
+          kind = its.kind;
+          hold = its.hold;
+          layout = its.layout;
+          len = its.len;
+        }
+    call_ended (Copying other) beside held its = absurd (beside.actors (one_job of its))
 
     -- What a call has written or read is its block's still.
-    call_holds : (wrong : Excepted) (disk : Disk) (content : List ℕ) (call : HoldingCall)
-        → HaveNoneInCommon (Copying run) call
-        → IsCallOfCore core call → HoldsCall wrong (at_disk core disk) content call
-        → HoldsCall wrong (at_disk ended disk) content call
-    call_holds wrong disk content (Putting put) apart its held = search (put_holds_moves, put_same, front)
-    call_holds wrong disk content (Reading get) apart its held = search (block_moves, get_same)
-    call_holds wrong disk content (Copying other) apart its held = absurd apart
+    call_holds : (damage : Damage) (disk : Disk) (content : List ℕ) (call : HoldingCall)
+        → AreBeside (Copying run) call
+        → IsCallOfCore core call → HoldsCall damage (at_disk core disk) content call
+        → HoldsCall damage (at_disk ended disk) content call
+    call_holds damage disk content (Putting put) beside its held =
+        let apart : ShareNoSector run.hold put.hold =
+        share_none (Copying run) (Putting put) (λ reads. reads) beside.apart in
+        search (put_holds_moves, put_same, front)
+    call_holds damage disk content (Reading get) beside its held =
+        let apart : ShareNoSector run.hold get.hold =
+        share_none (Copying run) (Reading get) (λ reads. reads) beside.apart in
+        search (block_moves, get_same)
+    call_holds damage disk content (Scrubbing scrub) beside its held =
+        let apart : ShareNoSector run.hold scrub.mend.hold =
+        rw its.hold (share_none (Copying run) (Scrubbing scrub) (λ reads. reads) beside.apart) in
+        let get_apart : ShareNoSector run.hold scrub.read.hold =
+        share_none (Copying run) (Scrubbing scrub) (λ reads. reads) beside.apart in
+        let read = held.read in
+        let mend = held.mend in
+        record {
+          read = search (block_moves, get_same, its.read);
+          mend = search (put_holds_moves, put_same, front, its.mend);
+          listed = held.listed;
+        }
+    call_holds damage disk content (Copying other) beside its held = absurd (beside.actors (one_job of its))
 
     -- ---- a commit
 
@@ -120,7 +159,7 @@ module _ {old new : Core} {run : CopyRun} {left calls : List HoldingCall} (is : 
   -- The other calls are under way still.
   pub job_ends_calls : AreCallsOf new left
   job_ends_calls = rw ends.rest (record {
-    each = λ call listed. call_ended is of ends.ends call (beside call listed).apart
+    each = λ call listed. call_ended is of ends.ends call (beside call listed)
         (ends_other old.holds new.holds run.hold (hold_of_call call) ends.ends (hold_listed old call (was call listed))
         (search (beside, arith))) (was call listed);
     under = rw (← ranges_copied gains) are.under;
@@ -140,12 +179,14 @@ module _ {old new : Core} {run : CopyRun} {left calls : List HoldingCall} (is : 
   job_ends_stands {setting} {last} {begun} {map} {damage} {contents} {commit} {disk} whole all stands =
       let held = map_ended is of ends.ends damage.left stands.damage_is.closed map disk whole all
       (stands.each (Copying run) (gains_item left calls (Copying run) gains)) stands.holds in
+      let reads : AreReadOfMap old.pool.blocks.table.entries map contents left =
+      of_map_fewer map refl (reads_less gains) stands.reads in
       rw ends.rest (search (groups_ended, stands.spared, call_loses, each_on, arith))
     where
       each_on : (call : HoldingCall) → Contains left call
-          → HoldsCall damage.listed (at_disk (ended is of ends.ends) disk) (contents (actor_of call)) call
-      each_on call listed = call_holds is of ends.ends damage.listed disk (contents (actor_of call)) call (beside call listed).apart
-          (was call listed) (stands.each call (search gains_old))
+          → HoldsCall damage (at_disk (ended is of ends.ends) disk) (contents (actor_of call)) call
+      each_on call listed = call_holds is of ends.ends damage disk (contents (actor_of call)) call
+          (beside call listed) (was call listed) (stands.each call (search gains_old))
 
       groups_ended : (commit : Option CommitRun) → GroupsStand setting last begun calls commit (at_disk old disk)
           → GroupsStand setting last begun left commit (at_disk (ended is of ends.ends) disk)

@@ -1,17 +1,18 @@
 -- What stands between two turns stands over each turn of a job, and so does what images keep.
-use Rattle.core_turns.proofs.Words.{◌≡◌, inl, inr, ⊎_elim, ℕ, ◌<◌, ◌≤◌, List, [], ◌∷◌, Option, sym, ◌∙◌, ap, subst}
-use Rattle.core_turns.proofs.Words.{arith, Contains, Disk, Lawful, Tells, TouchesOnly, Hold, Reflow, Layout, Gains}
-use Rattle.core_turns.proofs.Words.{Fill, IsWithin, Uber, count_none, AreAlike, Map, Kept, Setting, IsSound, point_of}
-use Rattle.core_turns.proofs.Words.{IsSpare, IsRowOf, KeepsSince, Cell, RightAt, contains_cases, contains_none}
-use Rattle.core_turns.proofs.Words.{contains_head, contains_tail, chooses, around_alone, around_begins, IsCommitChoice}
-use Rattle.core_turns.proofs.Words.{copied_of, IsCellIn, IsClose, StandAround, CopiesSector, IsTarget, MovesMark}
-use Rattle.core_turns.proofs.Words.{call_count, choice_moves, sound_close, job_at_front, job_spare, target_free}
-use Rattle.core_turns.proofs.Words.{gains_cases, gains_item, gains_old, IsInPool, CommitRun, shown_at, Stage, Lays}
-use Rattle.core_turns.proofs.Words.{sound_paged, begun_run, present_sector, HoldsJob, present_in, run_begins, run_steps}
-use Rattle.core_turns.proofs.Words.{step_goes_on, target_at, listed_in_pool, CopyRun, Core, CoreState, IsCore, as_begun}
-use Rattle.core_turns.proofs.Words.{at_disk, HasBankOf, BeginsJobSo, CopiesCells, DropsJob, IsJobOf, StepsJob}
-use Rattle.core_turns.proofs.Words.{HoldingCall, Putting, Reading, Copying, AreBeside, AreCallsOf, CommitStands}
-use Rattle.core_turns.proofs.Words.{Damage, Excepted, HoldsCall, IsCallOfCore, Stands, shown_of}
+use Rattle.core_turns.proofs.Words.{◌≡◌, inl, inr, ⊎_elim, ℕ, ◌<◌, ◌≤◌, List, [], ◌∷◌, Option, refl, sym, ◌∙◌, ap}
+use Rattle.core_turns.proofs.Words.{subst, arith, Contains, Disk, Lawful, Tells, TouchesOnly, Hold, Reflow, Layout}
+use Rattle.core_turns.proofs.Words.{Gains, Fill, IsWithin, Uber, count_none, AreAlike, Map, Kept, Setting, IsSound}
+use Rattle.core_turns.proofs.Words.{point_of, IsSpare, IsRowOf, KeepsSince, Cell, RightAt, contains_cases}
+use Rattle.core_turns.proofs.Words.{contains_none, contains_head, contains_tail, chooses, around_alone, around_begins}
+use Rattle.core_turns.proofs.Words.{IsCommitChoice, copied_of, IsCellIn, IsClose, StandAround, CopiesSector, IsTarget}
+use Rattle.core_turns.proofs.Words.{MovesMark, call_count, choice_moves, sound_close, job_at_front, job_spare}
+use Rattle.core_turns.proofs.Words.{target_free, gains_cases, gains_item, gains_old, IsInPool, CommitRun, shown_at}
+use Rattle.core_turns.proofs.Words.{Stage, Lays, sound_paged, begun_run, present_sector, HoldsJob, present_in}
+use Rattle.core_turns.proofs.Words.{run_begins, run_steps, step_goes_on, target_at, listed_in_pool, CopyRun, Core}
+use Rattle.core_turns.proofs.Words.{CoreState, IsCore, as_begun, at_disk, HasBankOf, BeginsJobSo, CopiesCells, DropsJob}
+use Rattle.core_turns.proofs.Words.{IsJobOf, StepsJob, HoldingCall, Putting, Reading, Scrubbing, Copying, AreBeside}
+use Rattle.core_turns.proofs.Words.{AreCallsOf, CommitStands, Damage, Excepted, HoldsCall, IsCallOfCore, Stands}
+use Rattle.core_turns.proofs.Words.{shown_of}
 use Rattle.reflow_mark.specs.declared.reflow.State.TheVariants.{None as Unmoved}
 use Rattle.uberblock_ring.specs.Devices.{count_of}
 use Rattle.core_commit.specs.declared.commit_run.Stage.TheVariants.{Signs}
@@ -21,7 +22,9 @@ use Rattle.core_turns.proofs.state.Frames.{AreOff, IsCallOff, IsOff}
 use Rattle.core_turns.proofs.read.Stands.{AddsNoPut, call_loses, stands_held}
 use Rattle.core_turns.proofs.state.Holds.{alone_beside, alone_passes, KeepsAlone}
 use Rattle.core_turns.proofs.copy.Beside.{off_target}
+use Rattle.core_turns.proofs.copy.Calls.{one_job}
 use Rattle.core_turns.proofs.copy.Laws.{all_used, target_data}
+use Rattle.core_turns.proofs.state.Reads.{of_map_fewer, reads_beside, reads_less}
 use Rattle.core_turns.proofs.copy.Turns.{IsWrittenBy, due_runs, hold_at_front, none_left, step_touches_target}
 use Rattle.core_turns.proofs.state.Writes.{AreSpare, off_call, off_right, since_written, writes_stand}
 
@@ -63,6 +66,7 @@ module _ {setting : Setting} {last : Kept} {begun : List Kept} {map : Map} {dama
       → Stands setting last begun map damage contents calls commit (at_disk new disk)
   job_begins_stands {old} {new} {disk} {run} {left} {calls} actor is begins gains stands =
       stands_held old new disk is (cc) (job_begins_alone begins) (job_adds gains)
+      (of_map_fewer map refl (reads_beside refl (λ other was. refl) gains))
       (each_gained gains (inl copies) (λ call was. inr (stands.each call was))) stands
     where
       begins_cell : (wrong : Excepted) (cell : Cell)
@@ -71,7 +75,7 @@ module _ {setting : Setting} {last : Kept} {begun : List Kept} {map : Map} {dama
           (point_of new.pool.out disk) wrong cell
       begins_cell cell right = search (run_begins, arith)
 
-      copies : HoldsCall damage.listed (at_disk new disk) [] (Copying run)
+      copies : HoldsCall damage (at_disk new disk) [] (Copying run)
       copies = search (begins_cell, arith)
 
   -- A job is given up: the others stand as they did.
@@ -81,6 +85,7 @@ module _ {setting : Setting} {last : Kept} {begun : List Kept} {map : Map} {dama
       → Stands setting last begun map damage contents left commit (at_disk new disk)
   job_drops_stands {old} {new} {disk} is drops of gains stands =
       stands_held old new disk is (cc) (job_drops_alone is drops of) (call_loses gains)
+      (of_map_fewer map refl (reads_less gains))
       (λ call listed. inr (stands.each call (search gains_old))) stands
 
 -- ---- a step
@@ -124,7 +129,11 @@ module _ {before after : CoreState} {run next : CopyRun} (is : IsCore before.cor
       → IsCallOff places reflow done call
   call_off (Putting put) beside its = layout_off its.pool
   call_off (Reading get) beside its = layout_off its.1.pool
-  call_off (Copying other) beside its = absurd beside.apart
+  call_off (Scrubbing scrub) beside its = (
+    layout_off (rw its.layout at its.mend.pool),
+    layout_off its.mend.pool,
+  )
+  call_off (Copying other) beside its = absurd (beside.actors (one_job of its))
 
   -- Not too many devices are out: none is.
   few : count_of before.core.pool.out ≤ before.core.pool.uber.parity
@@ -236,9 +245,10 @@ module _ {before after : CoreState} {run next : CopyRun} (is : IsCore before.cor
         → Stands setting last begun map damage contents nexts commit after
     job_steps_stands still_lawful again =
         writes_stand after touched within lawful few (spare_now setting last begun calls stands.alike) steps.rest
-        still_lawful (off_right before after touched within is.is.front table_off)
-        (λ other beside its. off_call before after touched within is.is.front other (call_off other beside its))
-        gains again
+        still_lawful (off_right before after touched within is.is.front damage.left table_off)
+        (λ other beside its. off_call before after touched within is.is.front damage other
+        (call_off other beside its))
+        gains again (refl, ap (λ (h : Hold). h.actor) steps.hold)
         (λ group spares put listed. spares put (call_loses gains put (job_adds again put listed)))
         (copies_on stands.tells stands.bank (stands.each (Copying run) (gains_item left calls (Copying run) gains))) are
         stands

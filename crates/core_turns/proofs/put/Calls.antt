@@ -1,13 +1,16 @@
 -- Which calls are under way over each turn of a put.
-use Rattle.core_turns.proofs.Words.{◌≡◌, ◌≢◌, ℕ, ◌+◌, List, length, Option, Some, arith, Contains, Shared, Overlaps}
+use Rattle.core_turns.proofs.Words.{◌≡◌, ◌≢◌, inr, ℕ, ◌+◌, ◌<◌, ◌≤◌, List, length, Option, Some, sym, ◌∙◌, ap, arith}
+use Rattle.core_turns.proofs.Words.{Contains, Shared, Hold, Overlaps, AreBeside, hold_of_call}
+use Rattle.space_alloc.specs.Space.{IsIn}
 use Rattle.core_turns.proofs.Words.{Gains, put_run, gains_item, gains_old, free_of_taken, Filled, PutRun, Core}
 use Rattle.core_turns.proofs.Words.{CoreState, BeginsPutSo, FillsPut, GivesUp, IsPutOf, LeavesBlocks, StoresBlock}
-use Rattle.core_turns.proofs.Words.{WritesOne, HoldingCall, Putting, Reading, Copying, AreCallsOf, HaveNoneInCommon}
-use Rattle.core_turns.proofs.Words.{IsCallOfCore, actor_of, ranges_of}
+use Rattle.core_turns.proofs.Words.{WritesOne, HoldingCall, Putting, Reading, Scrubbing, Copying, AreCallsOf}
+use Rattle.core_turns.proofs.Words.{HaveNoneInCommon, IsCallOfCore, actor_of, ranges_of}
 use Rattle.core_turns.proofs.state.Calls.{calls_gain, calls_lose, calls_swap, range_listed}
 use Rattle.core_turns.proofs.state.Frames.{KeepsCalls, calls_keep, calls_stay}
 use Rattle.core_turns.proofs.put.Ranges.{at_end, ranges_gain, under_moved}
-use Rattle.core_turns.proofs.put.Turns.{fills_of, written, written_of}
+use Rattle.core_turns.proofs.Words.{written_once}
+use Rattle.core_turns.proofs.put.Turns.{fills_of, written_of}
 use Rattle.core_turns.proofs.put.Goes.{outs_by_write}
 
 -- A turn that calls no device: blocks and holds are others, but not the widths, and all else is as it was.
@@ -34,16 +37,29 @@ pub put_begins_calls : {old new : Core} {actor id len : ℕ} {run : PutRun} {lef
     → AreCallsOf old left → AreCallsOf new calls
 put_begins_calls {old} {new} {run = run} {left} begins differs gains are =
     calls_gain gains (search (rearranged_keeps, begins_rearranges)) (search gains_old)
-    (search (under_moved, at_end, ranges_gain, begins.under, arith)) begins.of (grind (arith, apart)) are
+    (search (under_moved, at_end, ranges_gain, begins.under, arith)) begins.of beside are
   where
-    apart : (other : HoldingCall) → Contains left other → IsCallOfCore old other → HaveNoneInCommon (Putting run) other
-    apart (Putting other) listed of = free_of_taken old.pool.blocks.space old.holds (put_run run.range)
-        begins.begins.first.free (put_run other.range) (are.under.each other.range
-        (range_listed left other listed)).taken
-    apart (Reading other) listed of = λ sector in_put in_read.
+    -- No other call holds a sector of the new put.
+    clear : (other : HoldingCall) → Contains left other → IsCallOfCore old other → (sector : ℕ)
+        → IsIn (put_run run.range).start (put_run run.range).len sector
+        → ((hold_of_call other).lo ≤ sector) × (sector < (hold_of_call other).hi) → ⊥
+    clear (Putting other) listed of sector here there = free_of_taken old.pool.blocks.space old.holds
+        (put_run run.range) begins.begins.first.free (put_run other.range)
+        (are.under.each other.range (range_listed left other listed)).taken sector here (rw of.hold_is at there)
+    clear (Reading other) listed of sector here there =
         let shared : (other.hold.kind ≡ Shared) × Overlaps other.hold sector (sector + 1) = search arith in
-        (begins.begins.first.free sector in_put).not_shared (other.hold, of.1.holds, shared.0, shared.1)
-    apart (Copying other) listed of = λ overlaps. begins.begins.first.clear other.hold of.holds (search arith)
+        (begins.begins.first.free sector here).not_shared (other.hold, of.1.holds, shared.0, shared.1)
+    clear (Scrubbing other) listed of sector here there =
+        let read = of.read in
+        let shared : (other.read.hold.kind ≡ Shared) × Overlaps other.read.hold sector (sector + 1) = search arith in
+        (begins.begins.first.free sector here).not_shared (other.read.hold, read.holds, shared.0, shared.1)
+    clear (Copying other) listed of sector here there = begins.begins.first.clear other.hold of.holds (search arith)
+
+    beside : (other : HoldingCall) → Contains left other → AreBeside (Putting run) other
+    beside other listed = record {
+      actors = λ same. differs other listed (sym same ∙ ap (λ (h : Hold). h.actor) begins.hold_is);
+      apart = inr (λ sector here. clear other listed (are.each other listed) sector (rw begins.hold_is at here));
+    }
 
 -- One that is refused calls no device,
 pub leaves_rearranges : (old new : Core) → LeavesBlocks old new → Rearranges old new
@@ -88,7 +104,7 @@ next_calls {core} {run} {left} {calls} {nexts} filled of gains again are =
   where
     same_apart : (other : HoldingCall) → HaveNoneInCommon (Putting run) other
         → HaveNoneInCommon (Putting (record run { filled = filled })) other
-    same_apart other apart = grind arith
+    same_apart other apart = apart
 
 -- Bytes are filled in.
 pub put_fills_calls : {core : Core} {run next : PutRun} {bytes : List ℕ} {left calls nexts : List HoldingCall}
@@ -103,6 +119,6 @@ pub put_writes_calls : {before after : CoreState} {run next : PutRun} {left call
     → WritesOne before run after next → Gains left calls (Putting run) → Gains left nexts (Putting next)
     → AreCallsOf before.core calls → AreCallsOf after.core nexts
 put_writes_calls {before} {after} {run} {left = left} {calls} {nexts} writes gains again are =
-    calls_stay before.core after.core nexts writes.rest (outs_by_write writes.made).still
-    (next_calls (Some (written writes.filled)) (search (written_of, gains_item, are.each, arith)) gains
+    calls_stay before.core after.core nexts writes.rest (outs_by_write writes.writes.made).still
+    (next_calls (Some (written_once writes.writes.filled)) (search (written_of, gains_item, are.each, arith)) gains
     (search arith) are)

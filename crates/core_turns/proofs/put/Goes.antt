@@ -4,9 +4,13 @@ use Rattle.core_turns.proofs.Words.{Contains, slice_get, slice_index_or, slice_g
 use Rattle.core_turns.proofs.Words.{later_refl, touches_none, wrote_touches, Rows, Write, has_device, Point, point_of}
 use Rattle.core_turns.proofs.Words.{IsUnderWay, OnlyFailedGoOut, BlockWrite, IsOnBank, IsMade, IsPassedOrMade}
 use Rattle.core_turns.proofs.Words.{listed_at, below_by_write, outs_none, outs_called, plan_below, plan_inside}
-use Rattle.core_turns.proofs.Words.{IsOnInUse, Filled, PutRun, Turn, More, Busy, Done, Core, CoreState, IsCore, at_disk}
-use Rattle.core_turns.proofs.Words.{HasBankOf, HasTooManyOut, IsMorePut, IsPutOf, WritesOne, WritesTurn, TurnGoesOn}
+use Rattle.core_turns.proofs.Words.{IsOnInUse, Filled, PutRun, Turn, More, Busy, Done, Core, CoreState, IsCore}
+use Rattle.core_turns.proofs.Words.{HasBankOf, IsMorePut, IsPutOf, WritesTurn, TurnGoesOn}
 use Rattle.std.specs.Prelude.{All}
+use Rattle.core_client.specs.Writing.{ChecksPlace, spot_written}
+use Rattle.core_state.proofs.Below.{below_by_read}
+use Rattle.core_state.proofs.SpotReads.{outs_by_step}
+use Rattle.core_turns.proofs.Words.{Bool, ChecksNext, Option, WritesNext, looked_at, refl, sym}
 use Rattle.core_turns.proofs.state.Cores.{bank_within, bank_has, core_out}
 use Rattle.core_turns.proofs.state.Frames.{put_of_stays, widths_out}
 use Rattle.core_turns.proofs.put.Turns.{same_filled, written_of}
@@ -62,26 +66,73 @@ touches_by_write {before} {after} {rows} {write} P place step = ⊎_elim
     rw passed.1 (touches_none P before.disk))
     (λ (made : IsMade rows write before after). search wrote_touches) step
 
--- The next write is made, or passed over.
-module _ (core : Core) (filled : Filled) {out : ℕ} {old new : Disk}
-    (low : filled.write.next < length filled.write.writes)
-    (step : (next : Write) → slice_get filled.write.writes filled.write.next ≡ Some next
-    → IsPassedOrMade filled.write.rows next (point_of core.pool.out old) (point_of out new)) where
-  pub put_writes : {run : PutRun} {write : BlockWrite} → (HasTooManyOut core → ⊥) → run.filled ≡ Some filled
-      → write ≡ record filled.write { next = filled.write.next + 1 }
-      → WritesOne (at_disk core old) run (at_disk (record core { pool = record core.pool { out = out } }) new)
-      (record run { filled = Some (record filled { write = write }) })
-  put_writes few is write_is = let next = next_write filled.write.writes filled.write.next low in search arith
+-- The next place of what was filled in is looked at.
+pub put_checks : {run : PutRun} {filled : Filled} {write : BlockWrite} {otherwise : Bool} (before after : Point)
+    → run.filled ≡ Some filled → filled.write.next < length filled.write.writes
+    → ((next : Write) → slice_get filled.write.writes filled.write.next ≡ Some next
+    → ChecksPlace filled.write.rows next otherwise before after)
+    → (otherwise ≡ true → write ≡ filled.write)
+    → (otherwise ≡ false → write ≡ record filled.write { next = filled.write.next + 1 })
+    → ChecksNext run before otherwise (record run { filled = Some (record filled { write = write }) }) after
+put_checks {run} {filled} {write} {otherwise} before after some low checks stays on =
+    let next = next_write filled.write.writes filled.write.next low in
+    record {
+      filled = filled;
+      filled_is = some;
+      write = next.0;
+      write_is = next.1;
+      next_is = by otherwise stays on;
+      checks = checks next.0 next.1;
+    }
+  where
+    by : (otherwise : Bool) → (otherwise ≡ true → write ≡ filled.write)
+        → (otherwise ≡ false → write ≡ record filled.write { next = filled.write.next + 1 })
+        → record run { filled = Some (record filled { write = write }) } ≡ looked_at run filled otherwise
+    by true stays on = rw (stays refl) (ap (λ (f : Option Filled). record run { filled = f }) (sym some))
+    by false stays on = rw (on refl) refl
 
-  -- Whatever went out, the core is one still.
-  pub put_writes_core : {run : PutRun} → IsCore core → IsPutOf core run → run.filled ≡ Some filled
-      → IsCore (record core { pool = record core.pool { out = out } })
-  put_writes_core is of filled_is =
-      let next = next_write filled.write.writes filled.write.next low in
-      let did = step next.0 next.1 in
-      let inside : next.0.device < core.pool.uber.reflow.to = search (write_below, listed_at, arith) in
-      core_out core out is (below_by_write filled.write.rows next.0 (point_of core.pool.out old) (point_of out new)
-      core.reach did (omega arith) is.below) (outs_by_write did).still
+-- It is written, or passed over.
+pub put_writes_next : {run : PutRun} {filled : Filled} {write : BlockWrite} (before after : Point)
+    → run.filled ≡ Some filled → filled.write.next < length filled.write.writes
+    → ((next : Write) → slice_get filled.write.writes filled.write.next ≡ Some next
+    → IsPassedOrMade filled.write.rows next before after)
+    → write ≡ record filled.write { next = filled.write.next + 1 }
+    → WritesNext run before (record run { filled = Some (record filled { write = write }) }) after
+put_writes_next {filled = filled} before after some low step on =
+    let next = next_write filled.write.writes filled.write.next low in
+    record {
+      filled = filled;
+      filled_is = some;
+      write = next.0;
+      write_is = next.1;
+      next_is = rw on refl;
+      made = step next.0 next.1;
+    }
+
+-- Whatever went out, the core is one still.
+pub put_writes_core : {core : Core} {out : ℕ} {old new : Disk} {run next : PutRun} → IsCore core → IsPutOf core run
+    → WritesNext run (point_of core.pool.out old) next (point_of out new)
+    → IsCore (record core { pool = record core.pool { out = out } })
+put_writes_core {core} {out} {old} {new} is of writes =
+    let inside : writes.write.device < core.pool.uber.reflow.to =
+    write_below of writes.filled_is (listed_at writes.filled.write.writes writes.filled.write.next writes.write
+    writes.write_is) in
+    core_out core out is (below_by_write writes.filled.write.rows writes.write (point_of core.pool.out old)
+    (point_of out new) core.reach writes.made (omega (arith, inside, is.reach)) is.below)
+    (outs_by_write writes.made).still
+
+pub put_checks_core : {core : Core} {out : ℕ} {old new : Disk} {run next : PutRun} {otherwise : Bool} → IsCore core
+    → IsPutOf core run → ChecksNext run (point_of core.pool.out old) otherwise next (point_of out new)
+    → IsCore (record core { pool = record core.pool { out = out } })
+put_checks_core {core} {out} {old} {new} is of checks =
+    let inside : checks.write.device < core.pool.uber.reflow.to =
+    write_below of checks.filled_is (listed_at checks.filled.write.writes checks.filled.write.next checks.write
+    checks.write_is) in
+    let read = checks.checks.read in
+    let spot = spot_written checks.write in
+    core_out core out is (below_by_read spot checks.checks.given (point_of core.pool.out old) (point_of out new)
+    core.reach read (omega (arith, inside, is.reach)) is.below)
+    (outs_by_step spot checks.checks.given (point_of core.pool.out old) (point_of out new) read).still
 
 -- ---- the turn
 
@@ -90,11 +141,11 @@ pub put_goes_on : {before after : CoreState} {run : PutRun} (result : Turn PutRu
     → IsPutOf before.core run → WritesTurn before run after result → TurnGoesOn before after
 put_goes_on {before} {after} (More next) is of writes =
     let uber : after.core.pool.uber ≡ before.core.pool.uber = ap (λ (c : Core). c.pool.uber) writes.rest in
-    let listed = listed_at writes.filled.write.writes writes.filled.write.next writes.write writes.write_is in
-    let below : writes.write.device < before.core.reach =
-    omega (arith, write_below of writes.filled_is listed, is.reach) in
+    let its = writes.writes in
+    let listed = listed_at its.filled.write.writes its.filled.write.next its.write its.write_is in
+    let below : its.write.device < before.core.reach = omega (arith, write_below of its.filled_is listed, is.reach) in
     let only = touches_by_write (IsOnInUse before.core.reach before.core.pool.out)
-    (λ used. (below, used)) writes.made in
+    (λ used. (below, used)) its.made in
     search outs_by_write
 put_goes_on (Busy by) is of writes = absurd writes
 put_goes_on {before} {after} (Done given) is of writes =
@@ -104,5 +155,5 @@ put_goes_on {before} {after} (Done given) is of writes =
 pub put_more : (before after : CoreState) {run : PutRun} (result : Turn PutRun) → IsPutOf before.core run
     → IsUnderWay before.core.pool.blocks run.range → WritesTurn before run after result → IsMorePut after.core result
 put_more before after (More next) of under_way writes =
-    rw (writes.rest, writes.next_is) (search (put_of_stays, widths_out, written_of), under_way)
+    rw (writes.rest, writes.writes.next_is) (search (put_of_stays, widths_out, written_of), under_way)
 put_more before after other of under_way writes = tt

@@ -1,15 +1,21 @@
 -- What stands between two turns stands over each turn that calls no device, as those of a put but for its writes.
-use Rattle.core_turns.proofs.Words.{blocks_of}
-use Rattle.core_turns.proofs.Words.{◌≡◌, ◌≢◌, ◌⊎◌, inl, inr, ⊎_elim, ℕ, ◌+◌, ◌<◌, List, Option, Some, None, refl, sym}
-use Rattle.core_turns.proofs.Words.{◌∙◌, ap, length, arith, Contains, touches_none, Hold, Shared, EndsHold, Gains}
-use Rattle.core_turns.proofs.Words.{IndexEntry, AreBytes, Map, with_block, layout_of, Kept, Setting, PutRange, IsListed}
-use Rattle.core_turns.proofs.Words.{IsUnderWay, layout_run, put_run, NoneFree, AreClear, gains_item, gains_old}
-use Rattle.core_turns.proofs.Words.{gains_cases, written_all, written_none, CommitRun, HoldsMap, ReadsAs, state_of}
-use Rattle.core_turns.proofs.Words.{put_holds, entry_layout, Disk, Filled, PutRun, Core, CoreState, IsCore, as_begun}
-use Rattle.core_turns.proofs.Words.{at_disk, pool_at, BeginsPutSo, FillsPut, GivesUp, HoldsPut, IsPutOf, LeavesBlocks}
-use Rattle.core_turns.proofs.Words.{StoresBlock, filled_entry, HoldingCall, Putting, Reading, Copying, AreCallsOf}
-use Rattle.core_turns.proofs.Words.{Damage, Excepted, GroupsStand, HoldsCall, PutsSpare, SetsContent, Stands, actor_of}
-use Rattle.core_turns.proofs.state.Calls.{range_listed}
+use Rattle.core_turns.proofs.Words.{blocks_of, ◌≡◌, ◌≢◌, ◌⊎◌, inl, inr, ⊎_elim, ℕ, ◌+◌, ◌<◌, List, Option, Some, None}
+use Rattle.core_turns.proofs.Words.{refl, sym, ◌∙◌, ap, subst, length, arith, Contains, touches_none, Hold, Shared}
+use Rattle.core_turns.proofs.Words.{EndsHold, Gains, IndexEntry, AreBytes, Map, with_block, layout_of, Kept, Setting}
+use Rattle.core_turns.proofs.Words.{PutRange, IsListed, IsUnderWay, layout_run, put_run, NoneFree, AreClear, gains_item}
+use Rattle.core_turns.proofs.Words.{gains_old, gains_cases, written_all, written_none, CommitRun, HoldsMap, ReadsAs}
+use Rattle.core_turns.proofs.Words.{state_of, put_holds, entry_layout, Disk, Filled, PutRun, Core, CoreState, IsCore}
+use Rattle.core_turns.proofs.Words.{as_begun, at_disk, pool_at, BeginsPutSo, FillsPut, GivesUp, HoldsPut, IsPutOf}
+use Rattle.core_turns.proofs.Words.{LeavesBlocks, StoresBlock, filled_entry, HoldingCall, Putting, Reading, Scrubbing}
+use Rattle.core_turns.proofs.Words.{Copying, AreCallsOf, Damage, Excepted, GroupsStand, HoldsCall, PutsSpare}
+use Rattle.core_turns.proofs.Words.{SetsContent, Stands, actor_of}
+use Rattle.core_turns.proofs.state.Calls.{beside_turn, range_listed, share_none, some_held}
+use Rattle.core_turns.proofs.state.Reads.{ReadsNoMore, of_map_fewer, of_map_stored, reads_beside, reads_less, reads_on}
+use Rattle.core_turns.proofs.Words.{AreBeside, AreReadOfMap, IsCallOfCore, IsReadBy, allocated_of, entry_read, Layout}
+use Rattle.core_turns.proofs.Words.{hold_of_call, pairs_beside, ◌≤◌}
+use Rattle.space_alloc.specs.Space.{IsIn}
+use Rattle.core_state.specs.Index.{KeptBlock}
+use Rattle.core_blocks.specs.Blocks.{run_of}
 use Rattle.core_turns.proofs.state.StandFrames.{LeavesCommit, commit_still, lies_still}
 use Rattle.core_turns.proofs.state.Holds.{KeepsAlone, keeps_ended, keeps_gained, keeps_same}
 use Rattle.core_turns.proofs.put.Ranges.{same_put}
@@ -28,13 +34,14 @@ IsKeptPast core past = (past ≡ core.pool.uber.group) ⊎ (past ≡ core.begun)
 pub past_below : (core : Core) (past : ℕ) → IsCore core → IsKeptPast core past → past < core.begun + 1
 past_below core past is kept = search arith
 
--- a core with another's blocks and holds, and who copies sectors or attaches a device there
+-- a core with another's blocks and holds, and who copies sectors, attaches a device or scrubs there
 abbrev rearranged : Core → Core → Core
 rearranged old new = record old {
   pool = record old.pool { blocks = new.pool.blocks };
   holds = new.holds;
   copying = new.copying;
   attaching = new.attaching;
+  scrubbing = new.scrubbing;
 }
 
 -- All else is as it was, and so are the widths of the blocks.
@@ -53,15 +60,18 @@ pub stands_on : {setting : Setting} {last : Kept} {begun : List Kept} {map other
     → ((past : ℕ) (group : Kept) → IsKeptPast old past → NoneFree old.pool.blocks past (blocks_of group)
     → PutsSpare (at_disk old disk) calls group
     → NoneFree new.pool.blocks past (blocks_of group) × PutsSpare (at_disk old disk) nexts group)
+    → (AreReadOfMap old.pool.blocks.table.entries map contents calls
+    → AreReadOfMap new.pool.blocks.table.entries other nows nexts)
     → HoldsMap damage.left other (pool_at (at_disk new disk))
-    → ((call : HoldingCall) → Contains nexts call → HoldsCall damage.listed (at_disk new disk) (nows (actor_of call)) call
-    ⊎ HoldsCall damage.listed (at_disk old disk) (nows (actor_of call)) call)
+    → ((call : HoldingCall) → Contains nexts call → HoldsCall damage (at_disk new disk) (nows (actor_of call)) call
+    ⊎ HoldsCall damage (at_disk old disk) (nows (actor_of call)) call)
     → Stands setting last begun map damage contents calls commit (at_disk old disk)
     → Stands setting last begun other damage nows nexts commit (at_disk new disk)
-stands_on {setting} {last} {begun} {damage = damage} {nows = nows} {calls} {nexts} {commit} {old} {new} {disk} change alone keeps held
-    each stands =
+stands_on {setting} {last} {begun} {other = other} {damage = damage} {nows = nows} {calls} {nexts} {commit} {old} {new}
+    {disk} change alone keeps reads held each stands =
     let last_kept = keeps old.pool.uber.group last (inl refl) stands.kept stands.spared in
     let held_on = rw change.rest at held in
+    let of_map : AreReadOfMap (rearranged old new).pool.blocks.table.entries other nows nexts = reads stands.reads in
     rw change.rest (search (groups_on, spares_on, each_on))
   where
     spares_on : (group : Kept) → PutsSpare (at_disk old disk) nexts group
@@ -69,14 +79,15 @@ stands_on {setting} {last} {begun} {damage = damage} {nows = nows} {calls} {next
     spares_on group spared run listed = rw (change.parity, change.births) (spared run listed)
 
     -- What a call has written or read is its block's.
-    holds_on : (call : HoldingCall) → HoldsCall damage.listed (at_disk old disk) (nows (actor_of call)) call
-        → HoldsCall damage.listed (at_disk (rearranged old new) disk) (nows (actor_of call)) call
+    holds_on : (call : HoldingCall) → HoldsCall damage (at_disk old disk) (nows (actor_of call)) call
+        → HoldsCall damage (at_disk (rearranged old new) disk) (nows (actor_of call)) call
     holds_on (Putting run) held = search
     holds_on (Reading run) held = search
+    holds_on (Scrubbing run) held = let read = held.read in let mend = held.mend in search
     holds_on (Copying run) held = held
 
     each_on : (call : HoldingCall) → Contains nexts call
-        → HoldsCall damage.listed (at_disk (rearranged old new) disk) (nows (actor_of call)) call
+        → HoldsCall damage (at_disk (rearranged old new) disk) (nows (actor_of call)) call
     each_on call listed = ⊎_elim (λ now. rw change.rest at now) (holds_on call) (each call listed)
 
     groups_on : (commit : Option CommitRun) → GroupsStand setting last begun calls commit (at_disk old disk)
@@ -91,11 +102,14 @@ stands_on {setting} {last} {begun} {damage = damage} {nows = nows} {calls} {next
 pub stands_with : {setting : Setting} {last : Kept} {begun : List Kept} {map : Map} {damage : Damage} {contents nows : ℕ → List ℕ}
     {calls nexts : List HoldingCall} {commit : Option CommitRun} {state : CoreState}
     → ((group : Kept) → PutsSpare state calls group → PutsSpare state nexts group)
-    → ((call : HoldingCall) → Contains nexts call → HoldsCall damage.listed state (nows (actor_of call)) call)
-    → Stands setting last begun map damage contents calls commit state → Stands setting last begun map damage nows nexts commit state
-stands_with {state = state} spared each stands =
+    → ReadsNoMore contents calls nows nexts
+    → ((call : HoldingCall) → Contains nexts call → HoldsCall damage state (nows (actor_of call)) call)
+    → Stands setting last begun map damage contents calls commit state
+    → Stands setting last begun map damage nows nexts commit state
+stands_with {map = map} {state = state} spared reads each stands =
     stands_on {old = state.core} {disk = state.disk} (record { rest = refl; parity = refl; births = refl })
-    (search (keeps_same, arith)) (search arith) stands.holds
+    (search (keeps_same, arith)) (search arith)
+    (of_map_fewer map refl reads) stands.holds
     (λ call listed. inr (each call listed)) stands
 
 -- ---- a put
@@ -134,6 +148,33 @@ next_spares {left} {calls} {nexts} {run} state group filled gains again spared o
     (search (spared, gains_item))) (search (spared, gains_old))
     (gains_cases left nexts (Putting (record run { filled = filled })) (Putting one) again listed)
 
+-- A call holds the sectors of the block that it reads.
+read_holds : {core : Core} {entry : IndexEntry} → IsCore core → (call : HoldingCall) → IsCallOfCore core call
+    → entry_read call ≡ Some entry → (sector : ℕ)
+    → IsIn (run_of core.pool.blocks.parity core.pool.blocks.births entry).start
+    (run_of core.pool.blocks.parity core.pool.blocks.births entry).len sector
+    → ((hold_of_call call).lo ≤ sector) × (sector < (hold_of_call call).hi)
+read_holds is (Putting run) of none sector here = cc
+read_holds {core} {entry} is (Reading run) of some sector here =
+    let same : run.entry ≡ entry = cc in
+    rw (of.1.hold_is, same, ← is.is.parity, ← is.is.births) here
+read_holds {core} {entry} is (Scrubbing run) of some sector here =
+    let same : run.read.entry ≡ entry = cc in
+    rw (of.read.hold_is, same, ← is.is.parity, ← is.is.births) here
+read_holds is (Copying run) of none sector here = cc
+
+-- A put whose bytes are filled in holds them, none of them written yet.
+pub fills_holds : {content : List ℕ} {state : CoreState} {run next : PutRun} → FillsPut run next content
+    → IsPutOf state.core run → HoldsPut content state run → HoldsPut content state next
+fills_holds fills of was = rw fills.rest (record {
+  len_is = was.len_is;
+  are_bytes = was.are_bytes;
+  so_far = λ other same. rw (← same_filled same) (
+    fills.made.digest_is,
+    search (written_none, plan_now, of),
+  );
+})
+
 module _ {setting : Setting} {last : Kept} {begun : List Kept} {map : Map} {damage : Damage} {contents : ℕ → List ℕ}
     {commit : Option CommitRun} where
   -- A put begins, beside all others, with its bytes.
@@ -153,7 +194,9 @@ module _ {setting : Setting} {last : Kept} {begun : List Kept} {map : Map} {dama
         λ one listed. ⊎_elim (λ (same : Putting run ≡ Putting one). rw (← same_put same)
             (begins.spares past (blocks_of group) none))
             (λ there. spares one there) (gains_cases left calls (Putting run) (Putting one) gains listed),
-      )) (search map_on)
+      ))
+      (of_map_fewer map begins.begins.entries (reads_beside refl
+      (λ other was. sets.others (actor_of other) (differs other was)) gains)) (search map_on)
       (each_gained gains (inr (rw (ap nows (ap (λ (h : Hold). h.actor) begins.hold_is) ∙ sets.own) (record {
         len_is = len_is ∙ sym begins.len_is;
         are_bytes = bytes;
@@ -166,7 +209,8 @@ module _ {setting : Setting} {last : Kept} {begun : List Kept} {map : Map} {dama
       → Stands setting last begun map damage contents calls commit (at_disk new disk)
   put_refused_stands {old = old} {new} leaves stands =
       let change = leaves_rearranges old new leaves in
-      stands_on (calls_none change) (search (keeps_same, arith)) (search arith) (search map_on) (search arith) stands
+      stands_on (calls_none change) (search (keeps_same, arith)) (search arith)
+      (of_map_fewer map leaves.entries (λ block read. read)) (search map_on) (search arith) stands
 
   -- A put that is given up leaves the others.
   pub put_gives_up_stands : {left calls : List HoldingCall} {old new : Core} {disk : Disk} {run : PutRun}
@@ -177,7 +221,7 @@ module _ {setting : Setting} {last : Kept} {begun : List Kept} {map : Map} {dama
       let change = gives_up_rearranges old new run gives_up in
       stands_on (calls_none change) (search (put_ends_alone, gains_item, are.each, arith))
       (search (gains_item, gains_old, gives_up.kept, arith))
-      (search map_on) (λ call listed. inr (stands.each call (search gains_old))) stands
+      (of_map_fewer map gives_up.entries (reads_less gains)) (search map_on) (λ call listed. inr (stands.each call (search gains_old))) stands
 
   -- A put that ends brings its block into the map; a read of the block that it replaces goes on.
   pub put_ends_stands : {left calls : List HoldingCall} {old new : Core} {disk : Disk} {run : PutRun} → IsCore old
@@ -189,8 +233,7 @@ module _ {setting : Setting} {last : Kept} {begun : List Kept} {map : Map} {dama
       commit (at_disk new disk)
   put_ends_stands {left} {calls} {old} {new} {disk} {run} is ends whole gains are stands =
       stands_on (calls_none (ends_rearranges old new run ends)) (put_ends_alone old new run of ends.ends)
-      (search (past_below, gains_old, ends.kept, arith))
-      held (λ call listed. inr (stands.each call (search gains_old))) stands
+      (search (past_below, gains_old, ends.kept, arith)) (of_map_stored map content gains ends.change unread) held (λ call listed. inr (stands.each call (search gains_old))) stands
     where
       content : List ℕ
       content = contents run.hold.actor
@@ -203,6 +246,21 @@ module _ {setting : Setting} {last : Kept} {begun : List Kept} {map : Map} {dama
 
       holds : HoldsPut content (at_disk old disk) run
       holds = stands.each (Putting run) its_calls
+
+      -- Nobody reads the put's block.
+      unread : (block : KeptBlock) → IsReadBy contents left block → block.entry ≢ filled_entry run ends.filled
+      unread block read same =
+          let beside = pairs_beside AreBeside beside_turn calls left (Putting run) read.call gains are.beside read.listed
+          in
+          let its = entry_layout old.pool.blocks.parity old.pool.blocks.births old.pool.blocks run.range
+          (filled_entry run ends.filled) run.len run.range.birth refl refl of.range refl refl refl in
+          let some : 0 < allocated_of run.range.layout = some_held of.pool in
+          let first = run.range.layout.start in
+          share_none (Putting run) read.call (λ reads. reads) beside.apart first (rw of.hold_is (omega arith, omega (arith, some)))
+          (read_holds is read.call (are.each read.call (gains_old left calls (Putting run) read.call gains read.listed))
+          read.entry_is first (subst (λ (l : Layout). (l.start ≤ first) × (first < l.start + allocated_of l))
+          (sym (ap (λ (e : IndexEntry). layout_of old.pool.blocks.parity old.pool.blocks.births e) same ∙ its))
+          (omega arith, omega (arith, some))))
 
       read : ReadsAs (as_begun old).uber old.pool.done (filled_entry run ends.filled) content disk.reads old.pool.out
           damage.left
@@ -225,30 +283,18 @@ module _ {setting : Setting} {last : Kept} {begun : List Kept} {map : Map} {dama
           was in
           search (content, arith)
 
-  -- A put whose bytes are filled in holds them, none of them written yet.
+  -- Its bytes are filled in.
   pub put_fills_stands : {left calls nexts : List HoldingCall} {state : CoreState} {run next : PutRun}
       → FillsPut run next (contents run.hold.actor) → Gains left calls (Putting run) → Gains left nexts (Putting next)
       → AreCallsOf state.core calls → Stands setting last begun map damage contents calls commit state
       → Stands setting last begun map damage contents nexts commit state
   put_fills_stands {left} {calls} {nexts} {state} {run} {next} fills gains again are stands =
       stands_with (λ group. next_spares state group (Some fills.filled) gains (search arith))
-      (each_gained again (rw fills.rest filled) (λ call there. stands.each call (search gains_old))) stands
+      (reads_on refl (ap (λ (r : PutRun). r.hold.actor) fills.rest) gains again)
+      (each_gained again (subst (λ (actor : ℕ). HoldsPut (contents actor) state next)
+      (sym (ap (λ (r : PutRun). r.hold.actor) fills.rest))
+      (fills_holds fills of (stands.each (Putting run) (gains_item left calls (Putting run) gains))))
+      (λ call there. stands.each call (search gains_old))) stands
     where
-      content : List ℕ
-      content = contents run.hold.actor
-
       of : IsPutOf state.core run
       of = are.each (Putting run) (gains_item left calls (Putting run) gains)
-
-      was : HoldsPut content state run
-      was = stands.each (Putting run) (gains_item left calls (Putting run) gains)
-
-      filled : HoldsPut content state (record run { filled = Some fills.filled })
-      filled = record {
-        len_is = was.len_is;
-        are_bytes = was.are_bytes;
-        so_far = λ other same. rw (← same_filled same) (
-          fills.made.digest_is,
-          search (written_none, plan_now, of),
-        );
-      }

@@ -6,7 +6,7 @@ use Rattle.core_turns.proofs.Words.{PutRefused, Blocks, AreInStep, AreUnderWay, 
 use Rattle.core_turns.proofs.Words.{SparesAll, BeginsPut, IsAsBefore, IsPutCause, IsRangeFor, sectors_taken, gains_item}
 use Rattle.core_turns.proofs.Words.{adds_none, adds_taken_back, IsInPool, IsPlanOf, range_in_pool, OutOfMemory, Filled}
 use Rattle.core_turns.proofs.Words.{PutRun, More, Core, IsCore, as_begun, HasTooManyOut, BeginsPutTurn, FillsPut}
-use Rattle.core_turns.proofs.Words.{IsFilledWith, IsPutOf, LeavesBlocks, hold_on, refused_turn}
+use Rattle.core_turns.proofs.Words.{IsFilledWith, IsPutOf, LeavesBlocks, hold_on, refused_turn, written_once}
 use Rattle.core_blocks.specs.declared.refused.PutRefused.TheVariants as refused
 use Rattle.core_turns.proofs.state.Cores.{core_blocks}
 use Rattle.core_turns.proofs.state.Holds.{shared_gained}
@@ -129,12 +129,8 @@ pub went_filled : (old new : PutRun) (content : List ℕ) (result : Result (Unit
 went_filled old new content (Ok value) fills same len core of = fills_of core old new content fills len of
 went_filled old new content (Err why) fills same len core of = rw same of
 
--- a block with one write more
-abbrev pub written : Filled → Filled
-written filled = record filled { write = record filled.write { next = filled.write.next + 1 } }
-
 -- and where one more is written.
 pub written_of : (core : Core) (run : PutRun) (filled : Filled) (write : Write) → run.filled ≡ Some filled
     → slice_get filled.write.writes filled.write.next ≡ Some write → IsPutOf core run
-    → IsPutOf core (record run { filled = Some (written filled) })
+    → IsPutOf core (record run { filled = Some (written_once filled) })
 written_of core run filled write is there of = search (filled_of, slice_get_within, arith)

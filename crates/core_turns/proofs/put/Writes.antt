@@ -1,26 +1,21 @@
 -- What stands between two turns stands over each write of a put, and so does what images keep.
-use Rattle.core_turns.proofs.Words.{blocks_of}
-use Rattle.core_turns.proofs.Words.{◌≡◌, ⊎_elim, ℕ, ◌≤◌, List, [], ◌∷◌, Option, Some, sym, subst, arith, Contains}
-use Rattle.core_turns.proofs.Words.{cases_lt, Lawful, TouchesOnly, Reflow, Layout, stop_asks_no_more, writes_of}
-use Rattle.core_turns.proofs.Words.{are_required, Gains, IndexEntry, count_of, Uber, Map, layout_of, Kept, Setting}
-use Rattle.core_turns.proofs.Words.{IsSound, point_of, IsSpare, IsRowOf, KeepsSince, contains_cases, contains_none}
-use Rattle.core_turns.proofs.Words.{IsDataSector, data_is_no_page, page_place, layout_run, put_run, SparesAll, AreClear}
-use Rattle.core_turns.proofs.Words.{gains_item, OnlyFailedGoOut, IsInPool, listed_at, written_more, Stage, Lays}
-use Rattle.core_turns.proofs.Words.{CommitRun, shown_at, shown_by, sound_paged, listed_in_pool, entry_in_pool, tells_at}
-use Rattle.core_turns.proofs.Words.{PutRun, CoreState, IsCore, as_begun, IsPutOf, HoldsPut, WritesOne, HoldingCall}
-use Rattle.core_turns.proofs.Words.{Putting, Reading, Copying, AreBeside, AreCallsOf, CommitStands, IsCallOfCore}
-use Rattle.core_turns.proofs.Words.{Damage, PutsSpare, Stands, shown_of}
+use Rattle.core_turns.proofs.Words.{blocks_of, ◌≡◌, ⊎_elim, ℕ, ◌≤◌, List, [], ◌∷◌, Option, Some, refl, sym, ap, subst}
+use Rattle.core_turns.proofs.Words.{arith, Contains, cases_lt, Lawful, TouchesOnly, Reflow, Layout, are_required, Gains}
+use Rattle.core_turns.proofs.Words.{count_of, Uber, Map, layout_of, Kept, Setting, IsSound, point_of, IsSpare, IsRowOf}
+use Rattle.core_turns.proofs.Words.{KeepsSince, contains_cases, contains_none, IsDataSector, data_is_no_page}
+use Rattle.core_turns.proofs.Words.{page_place, layout_run, put_run, SparesAll, AreClear, gains_item, OnlyFailedGoOut}
+use Rattle.core_turns.proofs.Words.{Stage, Lays, CommitRun, shown_at, shown_by, sound_paged, listed_in_pool, PutRun}
+use Rattle.core_turns.proofs.Words.{CoreState, IsCore, as_begun, IsPutOf, HoldsPut, WritesOne, HoldingCall, Putting}
+use Rattle.core_turns.proofs.Words.{AreBeside, AreCallsOf, CommitStands, IsCallOfCore, Damage, PutsSpare, Stands}
+use Rattle.core_turns.proofs.Words.{shown_of}
 use Rattle.core_commit.specs.declared.commit_run.Stage.TheVariants.{Signs}
 use Rattle.core_turns.proofs.put.Places.{IsWrittenTo, AreInPool, never_asked, put_beside_commit, required_data}
-use Rattle.core_turns.proofs.sync.Ends.{layout_same}
-use Rattle.core_turns.proofs.state.Cores.{bank_within}
-use Rattle.core_turns.proofs.sync.Begins.{core_follows}
-use Rattle.core_turns.proofs.state.Frames.{AreOff, IsCallOff, IsOff, off_written}
-use Rattle.core_turns.proofs.state.Calls.{range_listed}
+use Rattle.core_turns.proofs.state.Frames.{AreOff, IsCallOff}
+use Rattle.core_turns.proofs.state.Calls.{range_listed, share_none}
 use Rattle.core_turns.proofs.put.Stands.{listed_clear, next_spares}
-use Rattle.core_turns.proofs.copy.Beside.{job_off_written}
-use Rattle.core_turns.proofs.put.Goes.{outs_by_write, touches_by_write}
-use Rattle.core_turns.proofs.put.Turns.{same_filled, written}
+use Rattle.core_turns.proofs.put.Written.{call_clear, last_inside, layout_clear, next_inside, next_layout, write_holds}
+use Rattle.core_turns.proofs.put.Written.{write_outs, write_touches}
+use Rattle.core_turns.proofs.Words.{written_once}
 use Rattle.core_turns.proofs.state.Writes.{AreSpare, off_call, off_right, since_written, writes_stand, written_by}
 
 -- A put has no sector in common with a block of this group, whose blocks lie in the pool.
@@ -43,10 +38,6 @@ module _ {left calls : List HoldingCall} {before after : CoreState} {run next : 
   abbrev places : ℕ → ℕ → Type 0
   places = IsWrittenTo layout reflow done before.core.pool.out
 
-  -- At most the write's device goes out.
-  outs : OnlyFailedGoOut (point_of before.core.pool.out before.disk) (point_of after.core.pool.out after.disk)
-  outs = outs_by_write writes.made
-
   -- Not too many devices were out.
   few : count_of before.core.pool.out ≤ before.core.pool.uber.parity
   few = search (cases_lt, arith)
@@ -60,53 +51,31 @@ module _ {left calls : List HoldingCall} {before after : CoreState} {run next : 
     of : IsPutOf before.core run
     of = are.each (Putting run) its_calls
 
-    -- ---- where it writes
+    -- At most the write's device goes out,
+    outs : OnlyFailedGoOut (point_of before.core.pool.out before.disk) (point_of after.core.pool.out after.disk)
+    outs = write_outs after is of writes.writes
 
-    -- The write is one of the block's,
-    write_listed : Contains (writes_of layout reflow done) writes.write
-    write_listed =
-        let is = (of.filled writes.filled writes.filled_is).1.plan.required.only writes.write (search listed_at) in
-        (are_required layout reflow done).all writes.write.row writes.write.column writes.write.device
-        writes.write.device_sector is.0 is.1
-
-    -- so nothing is touched but the block's places.
+    -- and nothing is touched but the block's places.
     touched : TouchesOnly places before.disk after.disk
-    touched = touches_by_write places (search (write_listed, arith)) writes.made
+    touched = write_touches after is of writes.writes
 
-    -- Blocks that have no sector of the put are off it: those of other calls,
-    off : (other : Layout) → IsInPool other reflow → AreClear (layout_run layout) (layout_run other)
-        → IsOff places reflow done other
-    off other = off_written reflow done layout other before.core.pool.out is.is.front of.pool
-
+    -- Calls that have no sector of the put are off it,
     calls_off : (call : HoldingCall) → AreBeside (Putting run) call → IsCallOfCore before.core call
         → IsCallOff places reflow done call
-    calls_off (Putting other) beside its = search (off, arith)
-    calls_off (Reading other) beside its = search (off, arith)
-    calls_off (Copying other) beside its = search (job_off_written, of, arith)
+    calls_off call beside its = call_clear after is of writes.writes call (share_none (Putting run) call (λ reads. reads) beside.apart) its
 
-    -- and those of the table.
+    -- and so are the blocks of the table.
     table_off : AreOff places before.core
-    table_off entry listed = off (layout_of before.core.pool.uber.parity before.core.pool.uber.births entry)
+    table_off entry listed = layout_clear after is of writes.writes
+        (layout_of before.core.pool.uber.parity before.core.pool.uber.births entry)
         (listed_in_pool (as_begun before.core) entry is.is is.step listed)
         (search (listed_clear, range_listed, its_calls, are.under.each, arith))
 
-    -- ---- what it writes
-
     -- One write more of the put's block stands there.
     holds_further : HoldsPut (contents next.hold.actor) (written_by before after) next
-    holds_further =
-        let was : HoldsPut (contents run.hold.actor) before run = stands.each (Putting run) its_calls in
-        let so_far = was.so_far writes.filled writes.filled_is in
-        rw writes.next_is (record {
-          len_is = was.len_is;
-          are_bytes = was.are_bytes;
-          so_far = λ filled same. rw (← same_filled same) (
-            so_far.0,
-            written_more layout (contents run.hold.actor) reflow done writes.filled.write writes.write
-                (point_of before.core.pool.out before.disk) (point_of after.core.pool.out after.disk)
-                writes.write_is so_far.1 writes.made (search (tells_at, bank_within, write_listed)),
-          );
-        })
+    holds_further = subst (λ (actor : ℕ). HoldsPut (contents actor) (written_by before after) next)
+        (sym (ap (λ (r : PutRun). r.hold.actor) writes.writes.next_is))
+        (write_holds after is of writes.writes stands.tells stands.bank (stands.each (Putting run) its_calls))
 
     -- The put has no sector of a block of a group that it spares.
     spares_now : (group : Kept) → PutsSpare before calls group
@@ -116,10 +85,7 @@ module _ {left calls : List HoldingCall} {before after : CoreState} {run next : 
     -- So it is clear of the last one,
     last_clear : IsSound setting last → IsClearOf layout reflow done last
     last_clear sound = record {
-      inside = record {
-        asked = λ row_end sector device device_sector inside place. search (stop_asks_no_more, arith);
-        each = search (entry_in_pool, arith);
-      };
+      inside = last_inside is stands sound;
       spares = subst (λ (u : Uber). SparesAll u.parity u.births (blocks_of last) (put_run run.range)) stands.alike
           (spares_now last stands.spared);
     }
@@ -128,20 +94,10 @@ module _ {left calls : List HoldingCall} {before after : CoreState} {run next : 
     next_clear : (commit : CommitRun) (groups : CommitStands setting last begun calls commit before)
         → IsClearOf layout reflow done groups.next
     next_clear commit groups = record {
-      inside = record {
-        asked = λ row_end sector device device_sector inside place.
-            (core_follows before.core commit.uber.reflow is groups.of.next.choice).stop row_end sector device
-            device_sector inside (search arith);
-        each = search (same, arith);
-      };
+      inside = next_inside is groups;
       spares = λ entry listed. subst (λ (l : Layout). AreClear (put_run run.range) (layout_run l))
-          (sym (same entry listed)) (search spares_now);
+          (sym (next_layout is groups entry listed)) (search spares_now);
     }
-      where
-        same : (entry : IndexEntry) → Contains (blocks_of groups.next) entry
-            → layout_of groups.next.uber.parity groups.next.uber.births entry
-            ≡ layout_of before.core.pool.uber.parity before.core.pool.uber.births entry
-        same entry listed = search (layout_same, arith)
 
     -- Where it writes is spare beside such groups,
     spare_of : (later : List Kept) → IsSound setting last
@@ -185,10 +141,11 @@ module _ {left calls : List HoldingCall} {before after : CoreState} {run next : 
         → Stands setting last begun map damage contents nexts commit after
     put_writes_stands still_lawful again =
         writes_stand after touched outs.still lawful few spare_now writes.rest still_lawful
-        (off_right before after touched outs.still is.is.front table_off)
-        (λ other beside its. off_call before after touched outs.still is.is.front other (calls_off other beside its))
-        gains again
-        (λ group. next_spares before group (Some (written writes.filled)) gains (search arith)) holds_further are stands
+        (off_right before after touched outs.still is.is.front damage.left table_off)
+        (λ other beside its. off_call before after touched outs.still is.is.front damage other
+        (calls_off other beside its))
+        gains again (refl, ap (λ (r : PutRun). r.hold.actor) writes.writes.next_is)
+        (λ group. next_spares before group (Some (written_once writes.writes.filled)) gains (search arith)) holds_further are stands
 
     -- Each image keeps what it kept, at each moment of it.
     pub put_writes_since : (groups : List Kept) (time : ℕ) → IsRowOf groups last (shown_of begun commit)

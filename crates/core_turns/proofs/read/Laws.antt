@@ -1,15 +1,15 @@
 -- What a read keeps of its block, turn by turn.
-use Rattle.core_turns.proofs.Words.{◌≡◌, ℕ, ◌<◌, List, [], false, Option, Some, None, Result, Ok, Err, sym, ◌∙◌, ap, arith}
-use Rattle.core_turns.proofs.Words.{IsLayout, Layout, damaged_alike, decoded_alike, left_decoded}
-use Rattle.core_turns.proofs.Words.{left_undamaged}
-use Rattle.core_turns.proofs.Words.{Excepted, IsAmong, read_with_more, OnOk, cases_lt, Disk, Unchanged, rows_of, IsRequiredPlace, IsFrontOf, entry_of}
-use Rattle.core_turns.proofs.Words.{IsLeftOver, has_device, IsWithin, Kind, Map, Cell, IsCell, found_id, found_listed}
-use Rattle.core_turns.proofs.Words.{HasLostFew, OnlyFailedGoOut, point_of, IsAtColumn, read_begun, read_stays}
-use Rattle.core_turns.proofs.Words.{read_more, read_left_over, read_lost_few, IsReadRight, HoldsMap, block_stays}
-use Rattle.core_turns.proofs.Words.{GetRun, OutOfMemory, Solved, NotYet, Bytes, Damaged, Turn, More, Busy, Done, Core}
-use Rattle.core_turns.proofs.Words.{CoreState, at_disk, pool_at, IsReadKind, HasTooManyOut, IsGetOf, BeginsGet}
-use Rattle.core_turns.proofs.Words.{ReadsTurn, IsSolved, SolvesGet, AnswersSolved, EndsGet, IsSolvedAs, HoldsGet}
-use Rattle.core_turns.proofs.Words.{FindsGet, KeepsGet, TellsGet, answer_of, to_solve_of, Answer, refl, turn_with}
+use Rattle.core_turns.proofs.Words.{◌≡◌, ℕ, ◌<◌, List, [], false, Option, Some, None, Result, Ok, Err, sym, ◌∙◌, ap}
+use Rattle.core_turns.proofs.Words.{arith, IsLayout, Layout, damaged_alike, decoded_alike, left_decoded, left_undamaged}
+use Rattle.core_turns.proofs.Words.{Excepted, IsAmong, read_with_more, OnOk, cases_lt, Disk, Unchanged, rows_of}
+use Rattle.core_turns.proofs.Words.{IsRequiredPlace, IsFrontOf, entry_of, IsLeftOver, has_device, IsWithin, Kind, Map}
+use Rattle.core_turns.proofs.Words.{Cell, IsCell, found_id, found_listed, HasLostFew, OnlyFailedGoOut, point_of}
+use Rattle.core_turns.proofs.Words.{IsAtColumn, read_begun, read_stays, read_more, read_left_over, read_lost_few}
+use Rattle.core_turns.proofs.Words.{IsReadRight, HoldsMap, block_stays, GetRun, OutOfMemory, Solved, NotYet, Bytes}
+use Rattle.core_turns.proofs.Words.{Damaged, Turn, More, Busy, Done, Core, CoreState, at_disk, pool_at, IsReadKind}
+use Rattle.core_turns.proofs.Words.{HasTooManyOut, IsGetOf, BeginsGet, ReadsTurn, IsSolved, SolvesGet, AnswersSolved}
+use Rattle.core_turns.proofs.Words.{EndsGet, IsSolvedAs, HoldsGet, FindsGet, KeepsGet, TellsGet, answer_of, to_solve_of}
+use Rattle.core_turns.proofs.Words.{Answer, refl, turn_with}
 use Rattle.core_turns.proofs.state.Damage.{none_among}
 use Rattle.reconstruct.specs.Rows.{sectors_for}
 use Rattle.core_turns.specs.declared.solving.ToSolve.{ToSolve}

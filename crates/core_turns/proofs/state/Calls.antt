@@ -1,26 +1,47 @@
 -- Calls under way that come, go on and end.
-use Rattle.core_turns.proofs.Words.{◌≡◌, arith, ⊎_elim, List, [], ◌∷◌, Contains, filter_map-append, Hold, EndsHold}
-use Rattle.core_turns.proofs.Words.{Overlaps, Gains, contains_head, contains_tail, contains_cases, contains_none}
-use Rattle.core_turns.proofs.Words.{AreUnderWay, gains_old, pairs_gain, pairs_lose, pairs_beside, GetRun, PutRun, Core}
-use Rattle.core_turns.proofs.Words.{HoldingCall, Putting, Reading, Copying, hold_of_call, ranges_of, IsCallOfCore}
-use Rattle.core_turns.proofs.Words.{HaveNoneInCommon, AreBeside, AreCallsOf}
+use Rattle.core_turns.proofs.Words.{◌≡◌, inl, inr, ⊎_elim, ◌+◌, arith, List, [], ◌∷◌, sym, Contains, filter_map-append}
+use Rattle.core_turns.proofs.Words.{Hold, EndsHold, Layout, allocated_of, AreClear, layout_run, IsReader, ShareNoSector}
+use Rattle.core_turns.proofs.Words.{Gains, contains_head, contains_tail, contains_cases, contains_none, AreUnderWay}
+use Rattle.core_turns.proofs.Words.{gains_old, pairs_gain, pairs_lose, pairs_beside, GetRun, PutRun, Core, HoldingCall}
+use Rattle.core_turns.proofs.Words.{Putting, Reading, Scrubbing, Copying, hold_of_call, ranges_of, IsCallOfCore}
+use Rattle.core_turns.proofs.Words.{HaveNoneInCommon, AreBeside, AreCallsOf, ◌<◌, IsInPool, Reflow}
+use Rattle.core_open.proofs.Layouts.{total_few}
 use Rattle.core_turns.proofs.free.TakenBack.{each_gained}
 use Rattle.core_turns.proofs.state.Frames.{KeepsCalls, call_of_stays, hold_listed, ends_other}
 
--- A hold that overlaps another is overlapped by it.
-turned : (one other : Hold) → Overlaps one other.lo other.hi → Overlaps other one.lo one.hi
-turned one other overlaps = search
-
 -- Beside each other are calls in either order.
 none_in_common_turn : (one other : HoldingCall) → HaveNoneInCommon one other → HaveNoneInCommon other one
-none_in_common_turn (Reading run) (Reading other) clear = clear
-none_in_common_turn (Copying run) (Copying other) clear = clear
-none_in_common_turn (Copying run) other clear = search turned
-none_in_common_turn run (Copying other) clear = search turned
-none_in_common_turn run other clear = λ sector there here. clear sector here there
+none_in_common_turn one other (inl readers) = inl (readers.1, readers.0)
+none_in_common_turn one other (inr clear) = inr (λ sector there here. clear sector here there)
 
 pub beside_turn : (one other : HoldingCall) → AreBeside one other → AreBeside other one
-beside_turn one other beside = grind (arith, none_in_common_turn)
+beside_turn one other beside = record {
+  actors = λ same. beside.actors (sym same);
+  apart = none_in_common_turn one other beside.apart;
+}
+
+-- Where one is no reader they hold no sector in common.
+pub share_none : (one other : HoldingCall) → (IsReader one → ⊥) → HaveNoneInCommon one other
+    → ShareNoSector (hold_of_call one) (hold_of_call other)
+share_none one other writes (inl readers) = absurd (writes readers.0)
+share_none one other writes (inr clear) = clear
+
+pub shares_none : (one other : HoldingCall) → (IsReader other → ⊥) → HaveNoneInCommon one other
+    → ShareNoSector (hold_of_call one) (hold_of_call other)
+shares_none one other writes (inl readers) = absurd (writes readers.1)
+shares_none one other writes (inr clear) = clear
+
+-- A block in its pool has a sector.
+pub some_held : {layout : Layout} {reflow : Reflow} → IsInPool layout reflow → 0 < allocated_of layout
+some_held {layout} pool = omega (arith, total_few layout, pool.within.is.content)
+
+-- Blocks whose holds have no sector in common have none either.
+pub blocks_clear : (one other : Hold) (layout behind : Layout) → one.lo ≡ layout.start
+    → one.hi ≡ layout.start + allocated_of layout → other.lo ≡ behind.start
+    → other.hi ≡ behind.start + allocated_of behind → ShareNoSector one other
+    → AreClear (layout_run layout) (layout_run behind)
+blocks_clear one other layout behind lo hi low high clear sector here there =
+    clear sector (rw (lo, hi) here) (rw (low, high) there)
 
 -- The range of a put is one of the ranges,
 pub range_listed : (calls : List HoldingCall) (run : PutRun) → Contains calls (Putting run)
@@ -33,6 +54,7 @@ range_listed (call ∷ calls) run listed = ⊎_elim
     behind : (call : HoldingCall) → Contains (ranges_of calls) run.range → Contains (ranges_of (call ∷ calls)) run.range
     behind (Putting other) there = search contains_tail
     behind (Reading other) there = there
+    behind (Scrubbing other) there = there
     behind (Copying other) there = there
 
 -- and a read has none.

@@ -5,14 +5,15 @@ use Rattle.core_turns.proofs.Words.{IsPool, HasBank, Core, HasBankOf, HasTooMany
 use Rattle.core_turns.proofs.state.Holds.{SameAlone}
 
 -- a core of these parts
-abbrev pub core_with : Uber → Blocks → ℕ → ℕ → List Hold → ℕ → Option ℕ → Option ℕ → Option ℕ → ℕ → Core
-core_with uber blocks out done holds begun committing copying attaching reach = record {
+abbrev pub core_with : Uber → Blocks → ℕ → ℕ → List Hold → ℕ → Option ℕ → Option ℕ → Option ℕ → Option ℕ → ℕ → Core
+core_with uber blocks out done holds begun committing copying attaching scrubbing reach = record {
   pool = record { uber = uber; blocks = blocks; out = out; done = done };
   holds = holds;
   begun = begun;
   committing = committing;
   copying = copying;
   attaching = attaching;
+  scrubbing = scrubbing;
   reach = reach;
 }
 

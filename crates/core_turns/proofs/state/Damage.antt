@@ -1,7 +1,7 @@
 -- What may be wrong of a row of groups.
 use Rattle.core_turns.proofs.Words.{◌≡◌, refl, ⊎_elim, [], ◌∷◌, sym, subst, Contains, contains_cases, contains_head}
-use Rattle.core_turns.proofs.Words.{contains_none, contains_tail, Kept, Excepted, IsAmong, Damage, IsDamage, ListsDamage}
-use Rattle.core_turns.proofs.Words.{undamaged}
+use Rattle.core_turns.proofs.Words.{contains_none, contains_tail, Kept, Excepted, IsAmong, Damage, IsDamage}
+use Rattle.core_turns.proofs.Words.{ListsDamage, undamaged}
 
 -- What is among nothing is nothing.
 pub none_among : (wrong more : Excepted) → IsAmong wrong more → more ≡ [] → wrong ≡ []

@@ -2,11 +2,11 @@
 use Rattle.core_turns.proofs.Words.{◌≡◌, ◌≢◌, ℕ, ◌≤◌, List, Option, false, ◌∙◌, arith, Contains, Unchanged, TouchesOnly}
 use Rattle.core_turns.proofs.Words.{Hold, EndsHold, Reflow, Layout, IsRequiredPlace, IsFrontOf, IndexEntry, has_device}
 use Rattle.core_turns.proofs.Words.{IsWithin, layout_of, Cell, IsCell, Nowhere, IsDataSector, AreUnderWay, IsListed}
-use Rattle.core_turns.proofs.Words.{Excepted, IsRightBlock, block_stays}
-use Rattle.core_turns.proofs.Words.{layout_run, AreClear, point_of, IsInPool, written_stays, SparesData, count_grows}
-use Rattle.core_turns.proofs.Words.{CopyRun, GetRun, PutRun, Core, CoreState, IsGetOf, HoldsGet, AsksAlike, IsPutOf}
-use Rattle.core_turns.proofs.Words.{HoldsPut, IsJobOf, HoldingCall, Putting, Reading, Copying, hold_of_call, ranges_of}
-use Rattle.core_turns.proofs.Words.{IsCallOfCore, HoldsCall, AreCallsOf, actor_of, at_disk, Disk}
+use Rattle.core_turns.proofs.Words.{Excepted, IsRightBlock, block_stays, layout_run, AreClear, point_of, IsInPool}
+use Rattle.core_turns.proofs.Words.{written_stays, SparesData, count_grows, CopyRun, GetRun, PutRun, Core, CoreState}
+use Rattle.core_turns.proofs.Words.{IsGetOf, HoldsGet, AsksAlike, IsPutOf, HoldsPut, IsJobOf, HoldingCall, Putting}
+use Rattle.core_turns.proofs.Words.{Reading, Scrubbing, Copying, hold_of_call, Damage, ranges_of, IsCallOfCore}
+use Rattle.core_turns.proofs.Words.{HoldsCall, AreCallsOf, actor_of, at_disk, Disk}
 use Rattle.core_turns.proofs.put.Places.{IsWrittenTo, never_both, required_data, written_cell}
 use Rattle.core_turns.proofs.read.Laws.{get_stays}
 use Rattle.core_turns.proofs.state.Holds.{ends_stays}
@@ -31,16 +31,16 @@ IsReadAt wrong state entry content =
     IsRightBlock (layout_of state.core.pool.uber.parity state.core.pool.uber.births entry) content
     state.core.pool.uber.reflow state.core.pool.done state.disk.reads state.core.pool.out wrong
 
--- Each block that stands in the table and is right stays right.
-abbrev pub KeepsRight : CoreState → CoreState → Type 0
-KeepsRight before after = (wrong : Excepted) (entry : IndexEntry) (content : List ℕ)
+-- Each block that stands in the table and is right, but for what may be wrong, stays so.
+abbrev pub KeepsRight : Excepted → CoreState → CoreState → Type 0
+KeepsRight wrong before after = (entry : IndexEntry) (content : List ℕ)
     → IsListed before.core.pool.blocks.table.entries entry
     → IsReadAt wrong before entry content → IsReadAt wrong after entry content
 
 -- What a call under way holds it holds still.
-abbrev pub KeepsCall : CoreState → CoreState → HoldingCall → Type 0
-KeepsCall before after call = (wrong : Excepted) (content : List ℕ) → HoldsCall wrong before content call
-    → HoldsCall wrong after content call
+abbrev pub KeepsCall : Damage → CoreState → CoreState → HoldingCall → Type 0
+KeepsCall damage before after call = (content : List ℕ) → HoldsCall damage before content call
+    → HoldsCall damage after content call
 
 -- No place that a block requires is one of these.
 abbrev pub IsOff : (ℕ → ℕ → Type 0) → Reflow → ℕ → Layout → Type 0
@@ -57,12 +57,14 @@ AreOff P core = (entry : IndexEntry) → IsListed core.pool.blocks.table.entries
 abbrev pub IsCallOff : (ℕ → ℕ → Type 0) → Reflow → ℕ → HoldingCall → Type 0
 IsCallOff P reflow done (Putting run) = IsOff P reflow done run.range.layout
 IsCallOff P reflow done (Reading run) = IsOff P reflow done run.read.layout
+IsCallOff P reflow done (Scrubbing run) =
+    IsOff P reflow done run.read.read.layout × IsOff P reflow done run.mend.range.layout
 IsCallOff P reflow done (Copying run) = IsJobOff P reflow done run.job
 
 -- A right block of the table stays right where it is off what was written.
-pub off_keeps : (P : ℕ → ℕ → Type 0) (before after : CoreState) → Leaves P before after → AreOff P before.core
-    → KeepsRight before after
-off_keeps P before after leaves off wrong entry content listed right =
+pub off_keeps : (P : ℕ → ℕ → Type 0) (wrong : Excepted) (before after : CoreState) → Leaves P before after
+    → AreOff P before.core → KeepsRight wrong before after
+off_keeps P wrong before after leaves off entry content listed right =
     rw (leaves.parity, leaves.births, leaves.reflow, leaves.done)
     (block_stays (layout_of before.core.pool.uber.parity before.core.pool.uber.births entry) content
     before.core.pool.uber.reflow before.core.pool.done before.disk.reads after.disk.reads before.core.pool.out
@@ -103,6 +105,7 @@ pub record KeepsWidths (old new : Core) : Type 0 where
 pub record KeepsCalls (old new : Core) : Type 0 where
   pub widths : KeepsWidths old new
   pub copying : new.copying ≡ old.copying
+  pub scrubbing : new.scrubbing ≡ old.scrubbing
   pub within : IsWithin old.pool.out new.pool.out
 
 -- So they do where only devices went out.
@@ -160,22 +163,42 @@ get_block_stays P wrong content before after run leaves off holds = get_stays wr
     (search (required_data, leaves.front)) (search off) ∙ read) holds
 
 -- So does each call, and a job has come as far.
-pub call_stays : (P : ℕ → ℕ → Type 0) (wrong : Excepted) (content : List ℕ) (before after : CoreState) (call : HoldingCall)
-    → Leaves P before after → IsCallOff P before.core.pool.uber.reflow before.core.pool.done call
-    → HoldsCall wrong before content call → HoldsCall wrong after content call
-call_stays P wrong content before after (Putting run) leaves off = put_stays P content before after run leaves off
-call_stays P wrong content before after (Reading run) leaves off = get_block_stays P wrong content before after run leaves off
-call_stays P wrong content before after (Copying run) leaves off = rw (leaves.reflow, leaves.done) (search job_leaves)
+pub call_stays : (P : ℕ → ℕ → Type 0) (damage : Damage) (content : List ℕ) (before after : CoreState)
+    (call : HoldingCall) → Leaves P before after
+    → IsCallOff P before.core.pool.uber.reflow before.core.pool.done call
+    → HoldsCall damage before content call → HoldsCall damage after content call
+call_stays P damage content before after (Putting run) leaves off holds =
+    put_stays P content before after run leaves off holds
+call_stays P damage content before after (Reading run) leaves off holds =
+    get_block_stays P damage.listed content before after run leaves off holds
+call_stays P damage content before after (Scrubbing run) leaves off holds = record {
+  read = get_block_stays P damage.listed content before after run.read leaves off.0 holds.read;
+  mend = put_stays P content before after run.mend leaves off.1 holds.mend;
+  listed = holds.listed;
+}
+call_stays P damage content before after (Copying run) leaves off holds =
+    rw (leaves.reflow, leaves.done) (search job_leaves)
 
 -- Where pool and disk are as they were each call holds what it held.
-pub calls_hold_on : (wrong : Excepted) (contents : ℕ → List ℕ) (calls : List HoldingCall) (old new : Core) (disk : Disk)
-    → new.pool ≡ old.pool
-    → ((call : HoldingCall) → Contains calls call → HoldsCall wrong (at_disk old disk) (contents (actor_of call)) call)
-    → (call : HoldingCall) → Contains calls call → HoldsCall wrong (at_disk new disk) (contents (actor_of call)) call
-calls_hold_on wrong contents calls old new disk same each (Putting run) has =
+pub calls_hold_on : (damage : Damage) (contents : ℕ → List ℕ) (calls : List HoldingCall) (old new : Core)
+    (disk : Disk) → new.pool ≡ old.pool
+    → ((call : HoldingCall) → Contains calls call → HoldsCall damage (at_disk old disk) (contents (actor_of call)) call)
+    → (call : HoldingCall) → Contains calls call → HoldsCall damage (at_disk new disk) (contents (actor_of call)) call
+calls_hold_on damage contents calls old new disk same each (Putting run) has =
     let holds = each (Putting run) has in
     record { len_is = holds.len_is; are_bytes = holds.are_bytes; so_far = rw same holds.so_far }
-calls_hold_on wrong contents calls old new disk same each call has =
+calls_hold_on damage contents calls old new disk same each (Scrubbing run) has =
+    let holds = each (Scrubbing run) has in
+    record {
+      read = let read = holds.read in search (same, arith);
+      mend = record {
+        len_is = holds.mend.len_is;
+        are_bytes = holds.mend.are_bytes;
+        so_far = rw same holds.mend.so_far;
+      };
+      listed = holds.listed;
+    }
+calls_hold_on damage contents calls old new disk same each call has =
     let holds = each call has in search (same, arith)
 
 -- A put is one of the pool still where its hold is there.
@@ -200,6 +223,15 @@ pub call_of_stays : (old new : Core) (call : HoldingCall) → KeepsCalls old new
     → IsCallOfCore old call → IsCallOfCore new call
 call_of_stays old new (Putting run) keeps listed of = search put_of_stays
 call_of_stays old new (Reading run) keeps listed of = search get_of_stays
+call_of_stays old new (Scrubbing run) keeps listed of = record {
+  read = get_of_stays old new run.read keeps.widths listed of.read;
+  mend = put_of_stays old new run.mend keeps.widths (rw of.hold listed) of.mend;
+  under_way = keeps.scrubbing ∙ of.under_way;
+  kind = of.kind;
+  hold = of.hold;
+  layout = of.layout;
+  len = of.len;
+}
 call_of_stays old new (Copying run) keeps listed of = search job_of_stays
 
 -- The hold of a call is there,
@@ -233,4 +265,4 @@ calls_beside core holds begun reach committing attaching calls more kept are = s
 pub calls_stay : (old new : Core) (calls : List HoldingCall) → OnlyOut old new → IsWithin old.pool.out new.pool.out
     → AreCallsOf old calls → AreCallsOf new calls
 calls_stay old new calls core within are = calls_keep old new calls
-    (record { widths = widths_out old new core; copying = cc; within = within }) (search arith) (search arith) are
+    (record { widths = widths_out old new core; copying = cc; scrubbing = cc; within = within }) (search arith) (search arith) are

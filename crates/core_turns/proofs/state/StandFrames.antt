@@ -1,27 +1,27 @@
 -- What a turn leaves of the map, of the groups, and of all that stands.
 use Rattle.core_turns.proofs.Words.{◌≡◌, ℕ, List, Option, Some, None, refl, ◌∙◌, arith, Contains, Disk, Lawful, Later}
-use Rattle.core_turns.proofs.Words.{Unchanged, tells_later, IndexEntry, IsWithin, Map, Kept, Setting}
-use Rattle.core_turns.proofs.Words.{KeepsSince, Nowhere, none_lost, unchanged_frames, knows_frame, IsListed}
-use Rattle.core_turns.proofs.Words.{OnlyFailedGoOut, point_of, CommitRun, committing_unchanged, HoldsMap}
-use Rattle.core_turns.proofs.Words.{bank_later, count_grows, Core, CoreState, pool_at, IsCommitOf}
-use Rattle.core_turns.proofs.Words.{hold_for, HoldingCall, actor_of, HoldsCall, LiesInPool, PutsSpare, GroupsStand}
-use Rattle.core_turns.proofs.Words.{CommitStands, IsCommitting, Stands}
+use Rattle.core_turns.proofs.Words.{Unchanged, tells_later, IndexEntry, IsWithin, Map, Kept, Setting, KeepsSince}
+use Rattle.core_turns.proofs.Words.{Nowhere, none_lost, unchanged_frames, knows_frame, IsListed, OnlyFailedGoOut}
+use Rattle.core_turns.proofs.Words.{point_of, CommitRun, committing_unchanged, HoldsMap, bank_later, count_grows, Core}
+use Rattle.core_turns.proofs.Words.{CoreState, pool_at, IsCommitOf, hold_for, HoldingCall, actor_of, HoldsCall}
+use Rattle.core_turns.proofs.Words.{LiesInPool, PutsSpare, GroupsStand, CommitStands, IsCommitting, Stands}
 use Rattle.core_turns.proofs.state.Holds.{KeepsAlone, keeps_same}
 use Rattle.core_turns.proofs.state.Frames.{Leaves, AreOff, IsCallOff, IsReadAt, KeepsRight, OnlyOut, call_stays}
 use Rattle.core_turns.proofs.state.Frames.{off_keeps}
-use Rattle.core_turns.proofs.Words.{Damage, row_at, Excepted}
+use Rattle.core_turns.proofs.Words.{Damage, row_at, Excepted, ap, Blocks}
+use Rattle.core_turns.proofs.state.Reads.{ReadsNoMore, of_map_fewer}
 
 -- ---- the map
 
 -- The map is held still where its blocks stay right.
 pub map_stays : (wrong : Excepted) (map : Map) (before after : CoreState)
-    → after.core.pool.blocks.table.entries ≡ before.core.pool.blocks.table.entries → KeepsRight before after
+    → after.core.pool.blocks.table.entries ≡ before.core.pool.blocks.table.entries → KeepsRight wrong before after
     → HoldsMap wrong map (pool_at before) → HoldsMap wrong map (pool_at after)
 map_stays wrong map before after table keeps holds = search (right, arith)
   where
     right : (entry : IndexEntry) (content : List ℕ) → IsListed before.core.pool.blocks.table.entries entry
         → map entry.id ≡ Some content → IsReadAt wrong after entry content
-    right entry content listed has = keeps wrong entry content listed (holds.right entry content listed has)
+    right entry content listed has = keeps entry content listed (holds.right entry content listed has)
 
 -- ---- the groups
 
@@ -107,23 +107,28 @@ since_read setting groups time old new same since = record {
 module _ {setting : Setting} {last : Kept} {begun : List Kept} {map : Map} {damage : Damage} where
   -- What stands, where uberblock and blocks are as they were: the groups and the calls are told anew.
   pub stands_still : {contents nows : ℕ → List ℕ} {calls nexts : List HoldingCall} {commit next : Option CommitRun}
-      (before after : CoreState) → IsWithin before.core.pool.out after.core.pool.out → KeepsRight before after
-      → after.core.pool.uber ≡ before.core.pool.uber → after.core.reach ≡ before.core.reach
+      (before after : CoreState) → IsWithin before.core.pool.out after.core.pool.out
+      → KeepsRight damage.left before after → after.core.pool.uber ≡ before.core.pool.uber → after.core.reach ≡ before.core.reach
       → after.core.pool.blocks ≡ before.core.pool.blocks
       → Later before.disk after.disk → GroupsStand setting last begun nexts next after → PutsSpare after nexts last
-      → ((call : HoldingCall) → Contains nexts call → HoldsCall damage.listed after (nows (actor_of call)) call)
-      → Stands setting last begun map damage contents calls commit before → Stands setting last begun map damage nows nexts next after
-  stands_still before after within keeps uber reach blocks later groups spared each stands =
+      → ReadsNoMore contents calls nows nexts
+      → ((call : HoldingCall) → Contains nexts call → HoldsCall damage after (nows (actor_of call)) call)
+      → Stands setting last begun map damage contents calls commit before
+      → Stands setting last begun map damage nows nexts next after
+  stands_still before after within keeps uber reach blocks later groups spared reads each stands =
       let holds = map_stays damage.left map before after (cc) keeps stands.holds in
+      let of_map = of_map_fewer map (ap (λ (b : Blocks). b.table.entries) blocks) reads stands.reads in
       search (uber, reach, tells_later, bank_later, arith)
 
   -- So it is where only devices went out.
   pub stands_anew : {contents nows : ℕ → List ℕ} {calls nexts : List HoldingCall} {commit next : Option CommitRun}
-      (before after : CoreState) → IsWithin before.core.pool.out after.core.pool.out → KeepsRight before after
-      → OnlyOut before.core after.core → Later before.disk after.disk
+      (before after : CoreState) → IsWithin before.core.pool.out after.core.pool.out
+      → KeepsRight damage.left before after → OnlyOut before.core after.core → Later before.disk after.disk
       → GroupsStand setting last begun nexts next after → PutsSpare after nexts last
-      → ((call : HoldingCall) → Contains nexts call → HoldsCall damage.listed after (nows (actor_of call)) call)
-      → Stands setting last begun map damage contents calls commit before → Stands setting last begun map damage nows nexts next after
+      → ReadsNoMore contents calls nows nexts
+      → ((call : HoldingCall) → Contains nexts call → HoldsCall damage after (nows (actor_of call)) call)
+      → Stands setting last begun map damage contents calls commit before
+      → Stands setting last begun map damage nows nexts next after
   stands_anew before after within keeps core = stands_still before after within keeps (rw core) (rw core) (rw core)
 
   -- What stands, over a turn that is none of these calls', as a step of a commit.
@@ -135,6 +140,6 @@ module _ {setting : Setting} {last : Kept} {begun : List Kept} {map : Map} {dama
       → GroupsStand setting last begun calls next after → Stands setting last begun map damage contents calls commit before
       → Stands setting last begun map damage contents calls next after
   stands_frame P before after leaves calls_off off core later groups stands =
-      stands_anew before after leaves.within (off_keeps P before after leaves off) core later groups
-      (λ run listed. rw core (stands.spared run listed))
+      stands_anew before after leaves.within (off_keeps P damage.left before after leaves off) core later groups
+      (λ run listed. rw core (stands.spared run listed)) (λ block read. read)
       (λ call listed. search (call_stays, calls_off, stands.each)) stands

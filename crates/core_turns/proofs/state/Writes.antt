@@ -5,7 +5,8 @@ use Rattle.core_turns.proofs.Words.{KeepsSince, gains_old, pairs_beside, touched
 use Rattle.core_turns.proofs.Words.{CommitRun, IsBeside, shown_at, shown_by, committing_knows, committing_touched}
 use Rattle.core_turns.proofs.Words.{CoreState, at_disk, HoldingCall, AreBeside, AreCallsOf, CommitStands, GroupsStand}
 use Rattle.core_turns.proofs.Words.{HoldsCall, IsCallOfCore, NoCommitStands, PutsSpare, Stands, actor_of, shown_in}
-use Rattle.core_turns.proofs.Words.{Damage, shown_of, arith}
+use Rattle.core_turns.proofs.Words.{Damage, Excepted, shown_of, arith, entry_read}
+use Rattle.core_turns.proofs.state.Reads.{reads_on}
 use Rattle.core_commit.specs.declared.commit_run.Stage.TheVariants.{Signs}
 use Rattle.core_turns.proofs.free.TakenBack.{each_gained}
 use Rattle.core_turns.proofs.state.Calls.{beside_turn}
@@ -41,12 +42,14 @@ module _ (before after : CoreState) {P : ℕ → ℕ → Type 0} (touched : Touc
   leaves_written : Leaves P before (written_by before after)
   leaves_written = search (leaves_touched, arith)
 
-  pub off_right : AreOff P before.core → KeepsRight before (written_by before after)
-  off_right off = off_keeps P before (written_by before after) leaves_written off
+  pub off_right : (wrong : Excepted) → AreOff P before.core → KeepsRight wrong before (written_by before after)
+  off_right wrong off = off_keeps P wrong before (written_by before after) leaves_written off
 
-  pub off_call : (call : HoldingCall) → IsCallOff P before.core.pool.uber.reflow before.core.pool.done call
-      → KeepsCall before (written_by before after) call
-  off_call call off wrong content = call_stays P wrong content before (written_by before after) call leaves_written off
+  pub off_call : (damage : Damage) (call : HoldingCall)
+      → IsCallOff P before.core.pool.uber.reflow before.core.pool.done call
+      → KeepsCall damage before (written_by before after) call
+  off_call damage call off content =
+      call_stays P damage content before (written_by before after) call leaves_written off
 
 module _ {before : CoreState} (after : CoreState) {P : ℕ → ℕ → Type 0} (touched : TouchesOnly P before.disk after.disk)
     (within : IsWithin before.core.pool.out after.core.pool.out) (lawful : Lawful before.disk)
@@ -76,19 +79,20 @@ module _ {before : CoreState} (after : CoreState) {P : ℕ → ℕ → Type 0} (
   -- All stands still, where the call that writes has come further, blocks stay right, and others hold what they held.
   pub writes_stand : {contents : ℕ → List ℕ} {map : Map} {damage : Damage} {commit : Option CommitRun}
       {left nexts : List HoldingCall} {call next : HoldingCall} → OnlyOut before.core after.core → Lawful after.disk
-      → KeepsRight before (written_by before after)
+      → KeepsRight damage.left before (written_by before after)
       → ((other : HoldingCall) → AreBeside call other → IsCallOfCore before.core other
-      → KeepsCall before (written_by before after) other)
+      → KeepsCall damage before (written_by before after) other)
       → Gains left calls call → Gains left nexts next
+      → (entry_read next ≡ entry_read call) × (actor_of next ≡ actor_of call)
       → ((group : Kept) → PutsSpare before calls group → PutsSpare before nexts group)
-      → HoldsCall damage.listed (written_by before after) (contents (actor_of next)) next → AreCallsOf before.core calls
+      → HoldsCall damage (written_by before after) (contents (actor_of next)) next → AreCallsOf before.core calls
       → Stands setting last begun map damage contents calls commit before
       → Stands setting last begun map damage contents nexts commit after
   writes_stand {contents} {damage = damage} {commit} {left} {nexts} {call} {next} same still_lawful right keeps gains
-      again fewer holds are stands =
+      again same_read fewer holds are stands =
       rw same (stands_anew before (written_by before after) within right refl touched.later
-      (search (groups_written, arith)) (fewer last stands.spared)
+      (search (groups_written, arith)) (fewer last stands.spared) (reads_on same_read.0 same_read.1 gains again)
       (each_gained again holds (λ other rest.
       let was = gains_old left calls call other gains rest in
       let beside = pairs_beside AreBeside beside_turn calls left call other gains are.beside rest in
-      keeps other beside (are.each other was) damage.listed (contents (actor_of other)) (stands.each other was))) stands)
+      keeps other beside (are.each other was) (contents (actor_of other)) (stands.each other was))) stands)

@@ -47,7 +47,8 @@ module _ (core : Core) (run : CommitRun) (uber : Uber) (before chosen : Reflow) 
     (blocks_are : blocks ≡ blocks_behind core.pool uber) (done_is : done ≡ front_behind before core.pool.done chosen)
   where
     abbrev now : Core
-    now = core_with uber blocks core.pool.out done holds core.begun None core.copying core.attaching core.reach
+    now = core_with uber blocks core.pool.out done holds core.begun None core.copying core.attaching core.scrubbing
+        core.reach
 
     its_drops : DropsHold core.holds holds (hold_for core.pool.uber.reflow uber.reflow actor)
     its_drops = search arith

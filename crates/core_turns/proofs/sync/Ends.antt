@@ -1,18 +1,17 @@
 -- The end of a commit beside the calls that are under way: its group is the last answered one, and each call goes on at
 -- the places at which it began.
-use Rattle.core_turns.proofs.Words.{blocks_of}
-use Rattle.core_turns.proofs.Words.{Contains, ◌≡◌, ℕ, ◌+◌, ◌≤◌, List, [], ◌∷◌, None, Option, Some, ap, IsRightBlock}
-use Rattle.core_turns.proofs.Words.{refl, arith, Disk, Hold, Shared, Reflow, Layout, IndexEntry, IsWithin, Map}
-use Rattle.core_turns.proofs.Words.{layout_of, Kept, Setting, Knows, Point, point_of, range_of_commit, chooses}
+use Rattle.core_turns.proofs.Words.{blocks_of, Contains, ◌≡◌, ℕ, ◌+◌, ◌≤◌, List, [], ◌∷◌, None, Option, Some, ap}
+use Rattle.core_turns.proofs.Words.{IsRightBlock, refl, arith, Disk, Hold, Shared, Reflow, Layout, IndexEntry, IsWithin}
+use Rattle.core_turns.proofs.Words.{Map, layout_of, Kept, Setting, Knows, Point, point_of, range_of_commit, chooses}
 use Rattle.core_turns.proofs.Words.{FollowsOn, IsOutside, front_behind, held_outside, NoneFree, spot_of, IsColumnOf}
 use Rattle.core_turns.proofs.Words.{Ended, CommitRun, HasEnded, IsCommitting, committing_done, committing_steps}
 use Rattle.core_turns.proofs.Words.{GoesOnIn, hold_for_job, MovesMark, choice_moves, answered_by, IsPool}
 use Rattle.core_turns.proofs.Words.{answered_block, answered_in_pool, answered_kept, answered_layout, answered_map}
 use Rattle.core_turns.proofs.Words.{answered_range, answered_spares, answered_under, CopyRun, GetRun, PutRun, Core}
 use Rattle.core_turns.proofs.Words.{IsCore, CoreState, at_disk, IsGetOf, hold_of, AsksAlike, IsPutOf, AnswersGroup}
-use Rattle.core_turns.proofs.Words.{DropsHold, IsCommitOf, hold_for, HoldingCall, Putting, Reading, Copying, AreCallsOf}
-use Rattle.core_turns.proofs.Words.{HasTooManyOut, IsSolvedAs}
-use Rattle.core_turns.proofs.Words.{Damage, Excepted, HoldsCall, IsCallOfCore, LiesInPool, ListsDamage, PutsSpare, Stands}
+use Rattle.core_turns.proofs.Words.{DropsHold, IsCommitOf, hold_for, HoldingCall, Putting, Reading, Scrubbing, Copying}
+use Rattle.core_turns.proofs.Words.{AreCallsOf, AreReadOfMap, HasTooManyOut, HoldsGet, HoldsPut, IsSolvedAs, Damage}
+use Rattle.core_turns.proofs.Words.{Excepted, HoldsCall, IsCallOfCore, LiesInPool, ListsDamage, PutsSpare, Stands}
 use Rattle.core_turns.proofs.copy.Beside.{cells_behind, goes_behind, job_holds_else}
 use Rattle.core_turns.proofs.state.Damage.{lists_last}
 use Rattle.core_turns.proofs.sync.Begins.{core_follows, core_rows}
@@ -83,15 +82,31 @@ module _ (core : Core) (run : CommitRun) (is : IsCore core) (of : IsCommitOf cor
 
     -- ---- the calls
 
-    call_answered : (call : HoldingCall) → IsCallOfCore core call → IsCallOfCore answered call
-    call_answered (Putting put) its = put_moves core answered put its (put_alike put its)
+    put_answered : (put : PutRun) → IsPutOf core put → IsPutOf answered put
+    put_answered put its = put_moves core answered put its (put_alike put its)
         (search (answered_in_pool, pool, on)) on.front
         (answered_range core.pool run.uber pool is.step of.next on put.range.id put.len put.range.birth put.range
         (search arith) its.range) its.born.1 (search (still_held, put_shared))
+
+    call_answered : (call : HoldingCall) → IsCallOfCore core call → IsCallOfCore answered call
+    call_answered (Putting put) its = put_answered put its
     call_answered (Reading get) its =
         let same = layout_same get.entry its.1.born in
         let held : get.hold ≡ hold_of answered.pool.uber get.entry its.1.actor = search (same, arith) in
         (its.0, search (same, answered_in_pool, pool, on, still_held, get_shared))
+    call_answered (Scrubbing scrub) its =
+        let same = layout_same scrub.read.entry its.read.born in
+        let held : scrub.read.hold ≡ hold_of answered.pool.uber scrub.read.entry its.read.actor = search (same, arith) in
+        let read = its.read in
+        record {
+          read = search (same, answered_in_pool, pool, on, still_held, get_shared);
+          mend = put_answered scrub.mend its.mend;
+          under_way = its.under_way;
+          kind = its.kind;
+          hold = its.hold;
+          layout = its.layout;
+          len = its.len;
+        }
     call_answered (Copying job) its =
         let held : job.hold ≡ hold_for_job chosen job.job.job job.hold.actor = search arith in
         search (job_goes, others_stay, drops, job_holds_else)
@@ -109,18 +124,31 @@ module _ (core : Core) (run : CommitRun) (is : IsCore core) (of : IsCommitOf cor
     column_stays wrong layout content row column None same is_column = rw same is_column
     column_stays wrong layout content row column (Some got) same is_column = rw same is_column
 
-    call_holds : (wrong : Excepted) (disk : Disk) (content : List ℕ) (call : HoldingCall) → IsCallOfCore core call
-        → HoldsCall wrong (at_disk core disk) content call → HoldsCall wrong (at_disk answered disk) content call
-    call_holds wrong disk content (Putting put) its held = put_holds_moves core answered put its (put_alike put its)
+    put_holds_on : (disk : Disk) (content : List ℕ) (put : PutRun) → IsPutOf core put
+        → HoldsPut content (at_disk core disk) put → HoldsPut content (at_disk answered disk) put
+    put_holds_on disk content put its held = put_holds_moves core answered put its (put_alike put its)
         (search (answered_in_pool, pool, on)) on.front disk content refl held
-    call_holds wrong disk content (Reading get) (kind, its) held =
+
+    get_holds_on : (wrong : Excepted) (disk : Disk) (content : List ℕ) (get : GetRun) → IsGetOf core get
+        → HoldsGet wrong content (at_disk core disk) get → HoldsGet wrong content (at_disk answered disk) get
+    get_holds_on wrong disk content get its held =
         let right : IsRightBlock get.read.layout content chosen behind disk.reads core.pool.out wrong =
         search (answered_block, pool, on) in
         let solved : wrong ≡ [] → (HasTooManyOut answered → ⊥) → IsSolvedAs content get.solved =
         λ none few. held.solved none (λ many. few
         (rw (ap (λ (l : Layout). l.parity) (layout_same get.entry its.born)) many)) in
         search (column_stays, spot_stays, get_outside, held.so_far.got, arith)
-    call_holds wrong disk content (Copying job) its held =
+
+    call_holds : (damage : Damage) (disk : Disk) (content : List ℕ) (call : HoldingCall) → IsCallOfCore core call
+        → HoldsCall damage (at_disk core disk) content call → HoldsCall damage (at_disk answered disk) content call
+    call_holds damage disk content (Putting put) its held = put_holds_on disk content put its held
+    call_holds damage disk content (Reading get) its held = get_holds_on damage.listed disk content get its.1 held
+    call_holds damage disk content (Scrubbing scrub) its held = record {
+      read = get_holds_on damage.listed disk content scrub.read its.read held.read;
+      mend = put_holds_on disk content scrub.mend its.mend held.mend;
+      listed = held.listed;
+    }
+    call_holds damage disk content (Copying job) its held =
         let its = chooses reflow core.pool.done chosen held.goes.widening.expands of.next.choice in
         search cells_behind
 
@@ -146,6 +174,8 @@ module _ (core : Core) (run : CommitRun) (is : IsCore core) (of : IsCommitOf cor
         search (answered_kept, pool, on, born_by_now, arith) in
         let lists : (kept : Kept) → Contains (next ∷ []) kept → ListsDamage damage kept =
         lists_last damage last next stands.lists in
+        let reads : AreReadOfMap answered.pool.blocks.table.entries map contents calls =
+        λ block read listed. stands.reads block read (search arith) in
         search (answered_spares, answered_map, pool, on, born_by_now, rows, call_holds, are.each, stands.each)
 
 -- A core of which no call was made leaves what a step that ends a commit begins with.

@@ -99,7 +99,7 @@ commit_begins_stands {setting} {last} {begun} {map} {damage} {contents} {calls} 
         } in
         let lists : (kept : Kept) → Contains (last ∷ next ∷ []) kept → ListsDamage damage kept =
         lists_next damage last next alone.damage_is refl alone.lists in
-        search (calls_hold_on damage.listed contents calls old begun_core disk refl alone.each)
+        search (calls_hold_on damage contents calls old begun_core disk refl alone.each)
 
 -- ---- a step of it
 

@@ -7,9 +7,8 @@ use Rattle.schedule.proofs.Words.{Putting, AreCallsOf, Stands, TurnGoesOn, keeps
 use Rattle.schedule.proofs.Words.{gives_up_rearranges, put_ends_calls, put_gives_up_calls, put_writes_calls}
 use Rattle.schedule.proofs.Words.{put_ends_stands, put_gives_up_stands, put_shared, put_writes_stands, put_writes_since}
 use Rattle.schedule.proofs.Words.{Client, UnderWay, IsWorkFor, Runs, calls_under_way, setting_now, TurnState}
-use Rattle.schedule.proofs.Words.{EndsPutting}
-use Rattle.schedule.proofs.Words.{GoesOnPutting, IsFilledIn, LeavesGoing, entry_for, made_by, IsWorldOf, TakesTurn}
-use Rattle.schedule.proofs.Words.{Past, undamaged}
+use Rattle.schedule.proofs.Words.{EndsPutting, GoesOnPutting, IsFilledIn, LeavesGoing, entry_for, made_by, IsWorldOf}
+use Rattle.schedule.proofs.Words.{TakesTurn, Past, undamaged}
 use Rattle.core_state.specs.declared.answer.Answer.TheVariants as answer
 use Rattle.core_state.specs.declared.answer.Kind.TheVariants as kind
 use Rattle.core_state.specs.declared.item.Item.TheVariants.{Call as CallItem}
@@ -64,7 +63,7 @@ module _ {script : Script} {actor : ℕ} {before after : TurnState} {clients new
       same : next ≡ record run { filled = next.filled }
       same =
           let fills = fills_same call run puts.filled puts.fills in
-          puts.writes.next_is ∙ (λ i. record (fills i) { filled = (sym puts.writes.next_is i).filled })
+          puts.writes.writes.next_is ∙ (λ i. record (fills i) { filled = (sym puts.writes.writes.next_is i).filled })
 
       moves : (left : List HoldingCall) × Gains left (calls_under_way clients) (Putting run)
           × Gains left (calls_under_way news) (Putting next)

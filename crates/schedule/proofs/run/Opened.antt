@@ -1,10 +1,10 @@
 -- A run of turns as an opening leaves it: no client has begun a call.
 use Rattle.schedule.proofs.Words.{◌≡◌, ℕ, zero, suc, List, [], ◌∷◌, Some, None, refl, subst, arith, slice_get, Disk}
-use Rattle.schedule.proofs.Words.{Later, Item, Group, Map, PutBytes, Calls, HaveParity, Kept, Setting, World}
-use Rattle.schedule.proofs.Words.{⊎_elim, Contains, contains_cases}
-use Rattle.schedule.proofs.Words.{contains_none, AreUnderWay, OpensPool, Pool, HasBank, HoldsMap, state_of, Script}
-use Rattle.schedule.proofs.Words.{first_item, Core, at_disk, AreCallsOf, Stands, Client, UnderWay, IsGoing, Runs}
-use Rattle.schedule.proofs.Words.{calls_under_way, blank_client, blank_clients, turns_of, first_turns, Past, undamaged}
+use Rattle.schedule.proofs.Words.{Later, Item, Group, Map, PutBytes, Calls, HaveParity, Kept, Setting, World, ⊎_elim}
+use Rattle.schedule.proofs.Words.{Contains, contains_cases, contains_none, AreUnderWay, OpensPool, Pool, HasBank}
+use Rattle.schedule.proofs.Words.{HoldsMap, state_of, Script, first_item, Core, at_disk, AreCallsOf, Stands, Client}
+use Rattle.schedule.proofs.Words.{UnderWay, IsGoing, Runs, calls_under_way, blank_client, blank_clients, turns_of}
+use Rattle.schedule.proofs.Words.{first_turns, Past, undamaged}
 use Rattle.schedule.proofs.run.Beginning.{recorded_first}
 use Rattle.core_turns.proofs.state.Damage.{none_damaged, none_listed}
 use Rattle.schedule.proofs.turn.Theirs.{none_some}
@@ -18,6 +18,7 @@ resting pool = record {
   committing = None;
   copying = None;
   attaching = None;
+  scrubbing = None;
   reach = pool.uber.reflow.to;
 }
 
@@ -76,6 +77,7 @@ module _ {setting : Setting} {first : Kept} {later : List Kept} {pool : Pool} {s
     alike = begins.group.alike;
     kept = begins.group.kept;
     spared = search contains_none;
+    reads = λ block read. absurd (contains_none read.call read.listed);
     damage_is = none_damaged;
     lists = λ kept listed. none_listed kept (rw (only_next kept listed) begins.excepted);
     shape = begins.group.shape;

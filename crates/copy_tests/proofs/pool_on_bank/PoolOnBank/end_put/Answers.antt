@@ -32,12 +32,12 @@ loop-preserved c =
     c.in-None.is c.put_write.ensures.of in
     let wrote = subst (λ (given : Option Answer). WritesTurn before c.loop.run after (turn_with c.put_write.new.run given))
     c.in-None.is c.put_write.ensures.writes in
-    let filled = wrote.filled in
+    let filled = wrote.writes.filled in
     record {
       of = more.0;
       under_way = more.1;
       filled = (
         record filled { write = record filled.write { next = filled.write.next + 1 } },
-        ap (λ (run : PutRun). run.filled) wrote.next_is,
+        ap (λ (run : PutRun). run.filled) wrote.writes.next_is,
       );
     }
