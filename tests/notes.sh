@@ -183,7 +183,7 @@ expect 'too few images' 5 'too small' disk0 disk1 -- "${create[@]}"
 tells 'how many there have to be' 'raidzx: 2 images are named, and the width is 3'
 
 # What the words of a command are.
-expect 'an option in another place' 1 usage disk0 disk1 -- create --width 3 --parity 1 --id 9
+expect 'an option that is not there' 1 usage disk0 disk1 -- create --width 3 --parity 1
 grep -q '^raidzx: usage: raidzx IMAGE.. -- create --parity P --width W --id N$' told || failed usage "$(cat told)"
 expect 'a word too many' 1 usage disk0 disk1 -- run now
 grep -q '^raidzx: usage: raidzx IMAGE.. -- run \[--attach\] <SCRIPT$' told || failed usage "$(cat told)"

@@ -114,7 +114,7 @@ fn words_that_are_no_command_are_usage_and_change_nothing(rt: HostRuntime) -> Re
         "raidzx scrub",
         "raidzx load --seed 1 --blocks 2",
         "raidzx create",
-        "raidzx create --width 3 --parity 1 --id 9",
+        "raidzx create --parity 1 --width 3 --id 9 --parity 1",
         "raidzx create --parity 1 --width 3 --id 09",
         "raidzx create --parity 1 --width 3 --id 18446744073709551616",
         "raidzx create --parity 0 --width 3 --id 9",

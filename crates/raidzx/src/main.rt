@@ -34,18 +34,17 @@ use after::tell_files;
 use bank::{DeviceFile, FileBank, bank_over, device_file};
 use bank_mem::MemBank;
 use bank_trait::{Bank, Sink};
+use command_words::{NoCommand, ServedCommand, read_command};
 use entry::{look_first, tell_look};
 use files::SyncRuntime;
+use help::show_answer;
 use hints::{hint_limit, hint_line};
 use looks::look_until_quiet;
 use notes::{note_busy, note_failed_calls, note_unopened};
 use opening::{Access, Unopened, access_for, open_image};
 use pace::Pace;
 use pool_live::OpenGate;
-use raidzx_top::{
-    Outcome, ServedCommand, Status, TOO_MANY_FAILED, image_words, raidzx, read_command,
-    write_status,
-};
+use raidzx_top::{Outcome, Status, TOO_MANY_FAILED, image_words, raidzx, write_status};
 use script::ScriptBytes;
 use std::alloc::{AllocError, AllocFailed, Global};
 use std::env;
@@ -259,10 +258,27 @@ fn end(rt: &HostRuntime, status: Status) -> ExitCode {
     ExitCode::from(status.code())
 }
 
-/// Ends the program where the words are no command.
-fn end_misused(rt: &HostRuntime, words: &[String]) -> ExitCode {
-    hint_usage(rt, words);
-    end(rt, Status::Usage)
+/// Ends the program where the words are no command, and tells the form of one, or answers who asks for help.
+fn end_misused(rt: &HostRuntime, words: &[String], why: &NoCommand) -> ExitCode {
+    match why {
+        NoCommand::Asked(answer) => match show_answer(rt, rt.alloc(), answer) {
+            Ok(()) => end(rt, Status::Usage),
+            Err(AllocError) => end(rt, Status::NoMemory),
+        },
+        NoCommand::Misspelled => {
+            hint_usage(rt, words);
+            end(rt, Status::Usage)
+        }
+        NoCommand::NoMemory => end(rt, Status::NoMemory),
+    }
+}
+
+/// Ends the program where the words name no images. Who asks for help names none.
+fn end_without_images(rt: &HostRuntime, words: &[String]) -> ExitCode {
+    match read_command(rt.alloc(), words) {
+        Ok(_) => end_misused(rt, words, &NoCommand::Misspelled),
+        Err(why) => end_misused(rt, words, &why),
+    }
 }
 
 /// Ends the program where this image refuses the run. Its number may be one that no set of devices has.
@@ -276,17 +292,18 @@ fn main(rt: HostRuntime) -> ExitCode {
     let arguments = match env::args(&rt) {
         Ok(arguments) => arguments,
         Err(why) if why.kind() == ErrorKind::OutOfMemory => return end(&rt, Status::NoMemory),
-        Err(_) => return end_misused(&rt, &[]),
+        Err(_) => return end_misused(&rt, &[], &NoCommand::Misspelled),
     };
     let Ok(words) = arguments.collect::<Vec<String>>(rt.alloc()) else {
         return end(&rt, Status::NoMemory);
     };
     let Some(images) = image_words(&words) else {
-        return end_misused(&rt, &words);
+        return end_without_images(&rt, &words);
     };
     let command = &words[images.count + 1..];
-    let Some(served) = read_command(command) else {
-        return end_misused(&rt, &words);
+    let served = match read_command(rt.alloc(), command) {
+        Ok(served) => served,
+        Err(why) => return end_misused(&rt, &words, &why),
     };
     let Ok(count) = u32::try_from(images.count) else {
         return end(&rt, Status::NoMemory);

@@ -1,12 +1,12 @@
 // How images are opened, and why one can't be used.
 ghost use Rattle.std.specs.Prelude.{◌≡◌, ◌↔◌, IfErr, IsTrue};
-ghost use Rattle.raidzx_top.specs.declared.words.ServedCommand.TheVariants as served;
+ghost use Rattle.command_words.specs.declared.command.ServedCommand.TheVariants as served;
 ghost use Rattle.raidzx.specs.declared.opening.Access.TheVariants.{Look};
 ghost use Rattle.raidzx.specs.declared.opening.Unopened.TheVariants as unopened;
 ghost use Rattle.raidzx.specs.Opening.{IsJust, IsOfProgram};
 
 use crate::files::Image;
-use raidzx_top::ServedCommand;
+use command_words::ServedCommand;
 use std::fs::{self, File, Files, OpenOptions, TryLockError};
 use std::io::{Error, ErrorKind, Seek, SeekFrom};
 use std::os::unix::fs::FileTypeExt;

@@ -2,8 +2,6 @@
 ghost use Rattle.std.specs.Prelude.{◌≡◌, ◌↔◌, codes};
 ghost use Rattle.raidzx.specs.declared.usage.Meant.TheVariants.{Create, Run, Replay, Status};
 
-use crate::help::{asks_help, show_help};
-
 /// Which command was meant, by the first word behind the dashes.
 #[derive(Clone, Copy, Debug, PartialEq, Eq)]
 pub enum Meant {
@@ -49,12 +47,8 @@ const REPLAY: &str = "raidzx IMAGE.. -- replay <SCRIPT";
 
 const STATUS: &str = "raidzx IMAGE.. -- status";
 
-/// Shows the form of the command that was meant, or of all; or the page that helps.
+/// Shows the form of the command that was meant, or of all.
 pub fn hint_usage<R: Eprint>(rt: &R, words: &[String]) {
-    if asks_help(words) {
-        show_help(rt);
-        return;
-    }
     let meant = meant_by(words);
     let wants_all = meant == Meant::Unknown;
     if wants_all || meant == Meant::Create {

@@ -21,11 +21,11 @@ use Rattle.raidzx_top.specs.declared.order.Order.{Order}
 use Rattle.raidzx_top.specs.declared.order.Order.TheVariants.{AsTheyCome, AsListed}
 use Rattle.raidzx_top.specs.declared.status.Status.{Status}
 use Rattle.raidzx_top.specs.declared.status.Status.TheVariants as status
-use Rattle.raidzx_top.specs.declared.words.NewPool.{NewPool}
-use Rattle.raidzx_top.specs.declared.words.ServedCommand.{ServedCommand}
-use Rattle.raidzx_top.specs.declared.words.ServedCommand.TheVariants as served
-use Rattle.raidzx_top.specs.Words.{Command, Create}
-use Rattle.raidzx_top.specs.Spelled.{SpellsCreate, IsServedAs, command_of}
+use Rattle.command_words.specs.declared.command.NewPool.{NewPool}
+use Rattle.command_words.specs.declared.command.ServedCommand.{ServedCommand}
+use Rattle.command_words.specs.declared.command.ServedCommand.TheVariants as served
+use Rattle.raidzx_top.specs.Words.{Command, Create, IsSize}
+use Rattle.raidzx_top.specs.Served.{IsServedAs, command_of}
 use Rattle.raidzx_top.specs.Call.{IsCarriedOut, IsQuiet, ReadsScript, TopCall}
 use Rattle.raidzx_top.specs.Order.{served_by}
 use Rattle.raidzx_top.specs.Causes.{NoneRose, IsCaused, IsCause, HaveFailedInCall, IsTooSmall, IsFoundImage, ComesWhere}
@@ -37,7 +37,7 @@ use Rattle.raidzx_top.specs.StatusCall.{StatusIsTold}
 use Rattle.raidzx_top.specs.Making.{IsSmallFor, HasFailedOn, Makes, IsSaid, EndsCreate}
 use Rattle.raidzx_top.proofs.NewPools.{new_begins}
 use Rattle.raidzx_top.proofs.NoStatus.{not_told}
-use Rattle.raidzx_top.proofs.Spelling.{one_create, create_no_script, create_no_status, create_spells}
+use Rattle.raidzx_top.proofs.Spelling.{one_create, create_no_script, create_no_status}
 use Rattle.raidzx_top.proofs.Texts.{part_right, whole_right}
 use Rattle.raidzx_top.proofs.Refusing.{said_right}
 use Rattle.raidzx_top.proofs.Growing.{bank_may_grow}
@@ -174,7 +174,7 @@ module _ (call : TopCall) (made : NewPool) (served_as : IsServedAs call.words (s
       (subst (λ (s : Shape). BankKeeps setting (first_kept setting.pool made.parity made.width s.sectors) [] call.new)
       new.shape
       (created_keeps setting made.parity made.width call.new (sized setting new)
-      (let base = new.base in omega (arith, base, spelled.size.2)) (let base = new.base in omega (arith, base))
+      (let base = new.base in omega (arith, base, size.2)) (let base = new.base in omega (arith, base))
       (let reach = new.reach in omega (arith, reach)) (inside setting new) new.few
       (subst (λ (s : Shape). IsCreated (first_uber setting.pool made.parity made.width (rows_for s.sectors)) call.new) (sym new.shape)
       (subst (λ (n : ℕ). IsCreated (first_uber n made.parity made.width (rows_for call.old.sectors)) call.new) (sym new.pool)
@@ -183,8 +183,8 @@ module _ (call : TopCall) (made : NewPool) (served_as : IsServedAs call.words (s
       (subst (λ (s : Shape). MightStand s call.new call.new.clock image) new.shape might)
       (subst (λ (s : Shape). Shows s image device uber) new.shape shows))))
     where
-      spelled : SpellsCreate call.words made
-      spelled = create_spells call.words made served_as
+      size : IsSize made.parity made.width
+      size = served_as.in_range.0
 
       devices : made.width ≤ call.old.devices
       devices = ⊎_elim (λ less. absurd (fits (inl less))) (λ enough. enough)
@@ -198,14 +198,14 @@ module _ (call : TopCall) (made : NewPool) (served_as : IsServedAs call.words (s
       inside setting new device below works =
           let reach = new.reach in
           let most : setting.shape.devices ≡ call.old.devices = ap (λ (s : Shape). s.devices) new.shape in
-          omega (arith, below, reach, most, devices, spelled.size.3)
+          omega (arith, below, reach, most, devices, size.3)
 
       sized : (setting : Setting) → IsNewSetting call made.parity made.width made.id setting
           → IsSized setting.shape setting.pool made.parity made.width
       sized setting new = record {
-        pool_fits = subst (λ (n : ℕ). n < 2 ^ 64) (sym new.pool) spelled.id;
-        parity_in = (spelled.size.0, spelled.size.1);
-        width_in = (spelled.size.2, spelled.size.3);
+        pool_fits = subst (λ (n : ℕ). n < 2 ^ 64) (sym new.pool) served_as.in_range.1;
+        parity_in = (size.0, size.1);
+        width_in = (size.2, size.3);
         devices = subst (λ (s : Shape). made.width ≤ s.devices) (sym new.shape) devices;
         sectors = subst (λ (s : Shape). 256 ≤ s.sectors) (sym new.shape) sectors;
       }

@@ -1,7 +1,7 @@
 -- Words of other commands ask for no status.
-use Rattle.raidzx_top.specs.declared.words.ServedCommand.TheVariants as served
+use Rattle.command_words.specs.declared.command.ServedCommand.TheVariants as served
 use Rattle.raidzx_top.specs.Call.{TopCall}
-use Rattle.raidzx_top.specs.Spelled.{IsServedAs}
+use Rattle.raidzx_top.specs.Served.{IsServedAs}
 use Rattle.raidzx_top.specs.StatusCall.{StatusIsTold}
 
 pub not_told : (call : TopCall) → (IsServedAs call.words served.Status → ⊥) → StatusIsTold call

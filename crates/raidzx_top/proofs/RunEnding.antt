@@ -6,7 +6,7 @@ use Rattle.raidzx_top.specs.Call.{TopCall}
 use Rattle.raidzx_top.specs.Order.{served_by}
 use Rattle.raidzx_top.specs.Promises.{CallPromises}
 use Rattle.raidzx_top.specs.Running.{EndsRun}
-use Rattle.raidzx_top.specs.Spelled.{IsServedAs}
+use Rattle.raidzx_top.specs.Served.{IsServedAs}
 use Rattle.raidzx_top.proofs.RunCarried.{carried_run}
 use Rattle.raidzx_top.proofs.RunParts.{run_keeps_promises}
 use Rattle.raidzx_top.proofs.RunRefused.{refused_run}

@@ -9,16 +9,16 @@ use Rattle.client_script.specs.Script.{IsOverLimit, IsFaultAt}
 use Rattle.raidzx_top.specs.declared.order.Order.{Order}
 use Rattle.raidzx_top.specs.declared.order.Order.TheVariants.{AsTheyCome, AsListed}
 use Rattle.raidzx_top.specs.declared.status.Status.TheVariants as status
-use Rattle.raidzx_top.specs.declared.words.NewPool.{NewPool}
-use Rattle.raidzx_top.specs.declared.words.ServedCommand.{ServedCommand}
-use Rattle.raidzx_top.specs.declared.words.ServedCommand.TheVariants as served
+use Rattle.command_words.specs.declared.command.NewPool.{NewPool}
+use Rattle.command_words.specs.declared.command.ServedCommand.{ServedCommand}
+use Rattle.command_words.specs.declared.command.ServedCommand.TheVariants as served
 use Rattle.raidzx_top.specs.Call.{TopCall, IsCarriedOut, MakesGroups, Opens, ReadsScript}
 use Rattle.raidzx_top.specs.Order.{served_by}
 use Rattle.raidzx_top.specs.Causes.{IsCause, IsFoundImage, IsReadWhole, IsOrNoMemory, IsFaultOrNoMemory, IsTooSmall}
 use Rattle.raidzx_top.specs.Causes.{FindsNoPool, IsRefusedWhere}
 use Rattle.raidzx_top.specs.Promises.{CallPromises, RunPromises, RunIsKept, LeavesNone, RunsUnhindered, CompletesAll}
 use Rattle.raidzx_top.specs.RunText.{TextIsRight}
-use Rattle.raidzx_top.specs.Spelled.{IsServedAs, command_of}
+use Rattle.raidzx_top.specs.Served.{IsServedAs, command_of}
 use Rattle.raidzx_top.specs.Words.{Command}
 use Rattle.raidzx_top.proofs.NoStatus.{not_told}
 use Rattle.raidzx_top.proofs.Spelling.{create_no_script, one_manner, script_no_status}

@@ -13,9 +13,9 @@ use Rattle.raidzx_top.specs.declared.order.Order.{Order}
 use Rattle.raidzx_top.specs.declared.order.Order.TheVariants.{AsTheyCome, AsListed}
 use Rattle.raidzx_top.specs.declared.status.Status.{Status}
 use Rattle.raidzx_top.specs.declared.status.Status.TheVariants as status
-use Rattle.raidzx_top.specs.declared.words.NewPool.{NewPool}
-use Rattle.raidzx_top.specs.declared.words.ServedCommand.{ServedCommand}
-use Rattle.raidzx_top.specs.declared.words.ServedCommand.TheVariants as served
+use Rattle.command_words.specs.declared.command.NewPool.{NewPool}
+use Rattle.command_words.specs.declared.command.ServedCommand.{ServedCommand}
+use Rattle.command_words.specs.declared.command.ServedCommand.TheVariants as served
 use Rattle.raidzx_top.specs.Call.{TopCall, IsCarriedOut, IsQuiet}
 use Rattle.raidzx_top.specs.Causes.{FindsNoPool, IsCause, IsFoundImage, IsOrNoMemory, IsRefusedWhere, IsTooSmall}
 use Rattle.raidzx_top.specs.Causes.{NoneRose}
@@ -24,7 +24,7 @@ use Rattle.raidzx_top.specs.Looking.{EndsStatus, IsLookAt, WasSeen, WasUnseen}
 use Rattle.raidzx_top.specs.Order.{served_by}
 use Rattle.raidzx_top.specs.Promises.{CallPromises, RunIsKept}
 use Rattle.raidzx_top.specs.RunText.{TextIsRight}
-use Rattle.raidzx_top.specs.Spelled.{IsServedAs, command_of}
+use Rattle.raidzx_top.specs.Served.{IsServedAs, command_of}
 use Rattle.raidzx_top.specs.StatusCall.{LooksUnhindered, TellsLook}
 use Rattle.raidzx_top.specs.Words.{Command}
 use Rattle.raidzx_top.proofs.Refusing.{said_right}

@@ -17,8 +17,8 @@ pub use Rattle.schedule.specs.Turns.{most_turns}
 use Rattle.raidzx_top.specs.declared.status.Status.{Status}
 use Rattle.raidzx_top.specs.declared.status.Status.TheVariants as status
 use Rattle.raidzx_top.specs.Words.{Command, Create, Load}
-use Rattle.raidzx_top.specs.declared.words.ServedCommand.{ServedCommand}
-use Rattle.raidzx_top.specs.Spelled.{IsServed, IsServedAs, command_of}
+use Rattle.command_words.specs.declared.command.ServedCommand.{ServedCommand}
+use Rattle.raidzx_top.specs.Served.{IsServed, IsServedAs, command_of}
 use Rattle.raidzx_top.specs.Call.{TopCall, HoldsImage, MakesGroups, Opens, ReadsScript, size_of, shape_of}
 
 -- A device has failed in this call, or none has.

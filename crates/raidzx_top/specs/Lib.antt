@@ -1,5 +1,5 @@
 pub mod Words
-pub mod Spelled
+pub mod Served
 pub mod Images
 pub mod Call
 pub mod Exit

@@ -10,7 +10,7 @@ use Rattle.core_state.specs.Create.{IsCreated, rows_for}
 use Rattle.raidzx_top.specs.declared.status.Status.{Status}
 use Rattle.raidzx_top.specs.declared.status.Status.TheVariants as status
 use Rattle.client_script.specs.Written.{IsAdded, IsPartAdded}
-use Rattle.raidzx_top.specs.declared.words.NewPool.{NewPool}
+use Rattle.command_words.specs.declared.command.NewPool.{NewPool}
 use Rattle.raidzx_top.specs.RunText.{create_text, status_line}
 
 -- The bank has too few devices or sectors for the pool.

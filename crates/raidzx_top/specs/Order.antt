@@ -5,8 +5,8 @@ use Rattle.client_script.specs.Script.{Script}
 use Rattle.pool_live.specs.Widening.{IsAlone, IsScriptWith}
 use Rattle.raidzx_top.specs.declared.order.Order.{Order}
 use Rattle.raidzx_top.specs.declared.order.Order.TheVariants.{AsTheyCome, AsListed}
-use Rattle.raidzx_top.specs.declared.words.ServedCommand.{ServedCommand}
-use Rattle.raidzx_top.specs.declared.words.ServedCommand.TheVariants as served
+use Rattle.command_words.specs.declared.command.ServedCommand.{ServedCommand}
+use Rattle.command_words.specs.declared.command.ServedCommand.TheVariants as served
 
 -- the command that carries a script out in this order
 abbrev pub served_by : Order → ServedCommand

@@ -35,9 +35,9 @@ use Rattle.raidzx_top.specs.declared.status.Status.{Status}
 use Rattle.raidzx_top.specs.declared.status.Status.TheVariants as status
 use Rattle.raidzx_top.specs.Bearing.{CanBear, setting_with}
 use Rattle.raidzx_top.specs.Words.{Create}
-use Rattle.raidzx_top.specs.declared.words.NewPool.{NewPool}
-use Rattle.raidzx_top.specs.declared.words.ServedCommand.TheVariants as served
-use Rattle.raidzx_top.specs.Spelled.{IsServedAs, command_of}
+use Rattle.command_words.specs.declared.command.NewPool.{NewPool}
+use Rattle.command_words.specs.declared.command.ServedCommand.TheVariants as served
+use Rattle.raidzx_top.specs.Served.{IsServedAs, command_of}
 use Rattle.raidzx_top.specs.Call.{TopCall, HoldsImage, IsCarriedOut, IsQuiet, shape_of}
 use Rattle.raidzx_top.specs.Order.{served_by}
 use Rattle.raidzx_top.specs.Causes.{NoneRose, IsTooSmall, MeetsLimit, IsNoCommand, IsCaused, ComesWhere, most_turns}
@@ -279,3 +279,15 @@ pub record CallPromises (call : TopCall) : Type 0 where
   pub unhindered : CompletesCommand call
   -- the next bank may have further devices
   pub may_be_added : MayAdd call.new
+
+-- There was no memory to read the words: that was told, and nothing was done.
+pub record WordsAreUnread (call : TopCall) : Type 0 where
+  pub status_is : call.status ≡ status.NoMemory
+  pub untouched : call.new ≡ call.old
+  pub quiet : IsQuiet call
+  pub text : TextIsRight call []
+  pub may_be_added : MayAdd call.new
+
+-- A call keeps its promises, unless its words could not be read.
+abbrev pub KeepsPromises : TopCall → Type 0
+KeepsPromises call = CallPromises call ⊎ WordsAreUnread call

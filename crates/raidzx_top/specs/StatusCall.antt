@@ -8,12 +8,12 @@ use Rattle.core_open.specs.Causes.{IsChoiceWithout}
 use Rattle.core_open.specs.declared.sight.Look.{Look}
 use Rattle.pool_status.specs.StatusText.{text_of_status}
 use Rattle.raidzx_top.specs.declared.status.Status.TheVariants as status
-use Rattle.raidzx_top.specs.declared.words.ServedCommand.TheVariants as served
+use Rattle.command_words.specs.declared.command.ServedCommand.TheVariants as served
 use Rattle.raidzx_top.specs.Call.{TopCall, HoldsImage, IsCarriedOut, IsQuiet, shape_of}
 use Rattle.raidzx_top.specs.Causes.{IsOrNoMemory, NoneRose}
 use Rattle.raidzx_top.specs.Looking.{IsLookAt}
 use Rattle.raidzx_top.specs.RunText.{TextIsRight}
-use Rattle.raidzx_top.specs.Spelled.{IsServedAs}
+use Rattle.raidzx_top.specs.Served.{IsServedAs}
 
 -- What was written is the text of a look at the bank.
 pub record TellsLook (call : TopCall) : Type 0 where

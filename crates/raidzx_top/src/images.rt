@@ -3,7 +3,7 @@ ghost use Rattle.std.specs.Prelude.{◌≡◌, ◌≢◌, ◌+◌, ◌<◌, ◌�
 ghost use Rattle.std.specs.Prelude.{codes, IsTrue, IfSome, IfNone, MatchOption, map, string_bytes};
 ghost use Rattle.raidzx_top.specs.Images.{AreImages, EachImage, IsImageWord, IsMemoryOf, IsMemoryWord};
 
-use crate::words::{is_word, number};
+use command_words::number;
 
 /// The most sectors of a device: its head and the most data rows.
 pub const MOST_SECTORS: u64 = 65_728;
@@ -14,6 +14,12 @@ pub const MOST_SECTORS: u64 = 65_728;
 pub struct Images {
     pub memory: Option<u64>,
     pub count: usize,
+}
+
+fn is_word(word: &String, text: &str) -> bool
+    ensures { IsTrue result ↔ (string_bytes word.now ≡ text.now) }
+{
+    word.as_str() == text
 }
 
 /// The number of words before the first two dashes, the program's name not counted.

@@ -3,8 +3,8 @@ ghost use Rattle.raidzx_top.specs.Words.{IsSize};
 ghost use Rattle.raidzx_top.specs.Making.{Makes};
 
 use crate::status::Status;
-use crate::words::NewPool;
 use bank_trait::Bank;
+use command_words::NewPool;
 use core_open::create;
 
 /// The fewest sectors that a device of a pool has.

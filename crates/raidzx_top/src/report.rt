@@ -7,9 +7,9 @@ ghost use Rattle.raidzx_top.specs.Making.{IsSaid};
 ghost use Rattle.raidzx_top.specs.RunText.{create_text, status_line};
 
 use crate::status::Status;
-use crate::words::NewPool;
 use bank_trait::{Failed, Sink};
 use client_script::{TextWriter, write_journal};
+use command_words::NewPool;
 use core_state::Journal;
 
 /// Writes the line of a new pool of so many data rows.

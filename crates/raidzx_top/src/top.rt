@@ -3,10 +3,10 @@ ghost use Rattle.std.specs.Prelude.{◌≡◌, ◌+◌, ◌≤◌, map, string_b
 ghost use Rattle.bank_trait.specs.Disk.{Lawful};
 ghost use Rattle.client_script.specs.FromSource.{most_reads};
 ghost use Rattle.raidzx_top.specs.Call.{call_of, stream_of};
-ghost use Rattle.raidzx_top.specs.Spelled.{AsksNoScript};
+ghost use Rattle.raidzx_top.specs.Served.{AsksNoScript};
 ghost use Rattle.raidzx_top.specs.Making.{EndsCreate};
-ghost use Rattle.raidzx_top.specs.Ending.{Ends};
-ghost use Rattle.raidzx_top.specs.Promises.{CallPromises};
+ghost use Rattle.raidzx_top.specs.Ending.{Ends, IsStatusOfWords};
+ghost use Rattle.raidzx_top.specs.Promises.{KeepsPromises};
 ghost use Rattle.raidzx_top.specs.Words.{IsSize};
 
 use crate::looking::tell_status;
@@ -16,13 +16,23 @@ use crate::outcome::Outcome;
 use crate::report::{refuse, write_created};
 use crate::running::run;
 use crate::status::Status;
-use crate::words::{NewPool, ServedCommand, read_command};
 use bank_trait::{Bank, Gate, Sink, Source};
+use command_words::{NewPool, NoCommand, ServedCommand, read_command};
 use core_open::data_rows;
 use pool_live::Host;
 use std::alloc::Global;
 use std::sync::Wait;
 use std::thread::Threads;
+
+/// The status of words that are no command.
+fn status_of(why: &NoCommand) -> Status
+    ensures { IsStatusOfWords why.now result }
+{
+    match why {
+        NoCommand::Asked(_) | NoCommand::Misspelled => Status::Usage,
+        NoCommand::NoMemory => Status::NoMemory,
+    }
+}
 
 fn create_pool<B: Bank, K: Sink>(bank: &mut B, made: &NewPool, out: &mut K) -> Status
     requires size { IsSize made.now.parity made.now.width }
@@ -58,20 +68,20 @@ fn carry_out<R: Threads + Wait + Sync, G: Gate + Sync, B: Bank + Send, S: Source
     ensures unread { AsksNoScript (map string_bytes words.now)
         → S.reads script.new ≡ S.reads script.old }
 {
-    match read_command(words) {
-        None => Outcome::without_turns(host.alloc, refuse(out, Status::Usage), bank),
-        Some(ServedCommand::Create(made)) => {
+    match read_command(host.alloc, words) {
+        Ok(ServedCommand::Create(made)) => {
             let status = create_pool(&mut bank, &made, out);
             Outcome::without_turns(host.alloc, status, bank)
         }
-        Some(ServedCommand::Run { attaches }) => {
+        Ok(ServedCommand::Run { attaches }) => {
             run(host, Order::AsTheyCome { attaches }, bank, script, out)
         }
-        Some(ServedCommand::Replay) => run(host, Order::AsListed, bank, script, out),
-        Some(ServedCommand::Status) => {
+        Ok(ServedCommand::Replay) => run(host, Order::AsListed, bank, script, out),
+        Ok(ServedCommand::Status) => {
             let status = tell_status(host.alloc, &mut bank, out);
             Outcome::without_turns(host.alloc, status, bank)
         }
+        Err(why) => Outcome::without_turns(host.alloc, refuse(out, status_of(&why)), bank),
     }
 }
 
@@ -93,7 +103,7 @@ pub fn raidzx<R: Threads + Wait + Sync, B: Bank + Send, S: Source, K: Sink, G: G
     out: &mut K,
     gate: &G,
 ) -> Outcome<B>
-    ensures promises { CallPromises (call_of (map string_bytes words.now)
+    ensures promises { KeepsPromises (call_of (map string_bytes words.now)
         (B.disk bank) (B.disk result.bank)
         (stream_of (S.left script.old) (S.faults script.old))
         (stream_of (S.left script.new) (S.faults script.new))
